@@ -1,0 +1,7 @@
+-- The paper's section "Geometry": the numbers (Geometry), the places of a store's words (Places), their laws (Bounds, Apart)
+-- and the paper's table (Table).
+pub mod Geometry
+pub mod Places
+pub mod Bounds
+pub mod Apart
+pub mod Table

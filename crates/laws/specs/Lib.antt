@@ -1,0 +1,3 @@
+-- Laws of tests and of lists that speak of nothing of the index.
+pub mod Tests
+pub mod Lists

@@ -1,0 +1,20 @@
+-- The paper's rules, section by section, in its order. Read them top to bottom; each uses only those above it and the numbers of
+-- geometry (capacity, room, places) and slot (pair, kind, tag).
+--
+--   Tree      index entries, levels, a tree
+--   Level     "How a level is written"
+--   Finding   "Finding"
+--   Merging   "Putting, dropping, merging"
+--   Listing   "List"
+--   Store     the writing of a whole store, word by word
+--   Sound     "Sound stores"
+--   Bench     the bench table, proved
+pub mod Tree
+pub mod Level
+pub mod Finding
+pub mod Merging
+pub mod Listing
+pub mod Store
+pub mod Sound
+pub mod Allowance
+pub mod Bench

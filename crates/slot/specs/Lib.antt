@@ -1,0 +1,4 @@
+-- A slot and its parts, in the order of reading: the pair order (Pair), tags (Tag), the three words (Slot).
+pub mod Pair
+pub mod Tag
+pub mod Slot

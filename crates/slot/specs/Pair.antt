@@ -1,0 +1,69 @@
+-- The order of pairs, by badge and then floor, and its laws. A pair's rank is its place in that order, so that an order of pairs
+-- is one of numbers; nothing outside this module looks into it. Assumes nothing.
+use Prim.Native.Nat.{ℕ, _+_, _*_, _<_}
+use native.Mathlib.Omega.{arith}
+use mathlib.Core.Path.{_≡_, refl}
+use mathlib.Core.Logic.{_≢_}
+use mathlib.Core.Bool.{Bool, false}
+use lib.Dec.{ltb, eqb}
+use borrow.Author.Tests.{ne-eqb}
+use Rattle.laws.specs.Tests.{ltb-agree, eqb-agree}
+use Rattle.slot.specs.declared.Pair.{Pair}
+
+-- A pair of a badge and a floor.
+abbrev pub pair : ℕ → ℕ → Pair
+pair b f = record { badge = b; floor = record { 0 = f } }
+
+-- Pairs are ordered by badge, then floor.
+unfoldable pub rank : Pair → ℕ
+rank p = p .badge * 4294967296 + p .floor .0
+
+-- The least pair.
+unfoldable pub least : Pair
+least = pair 0 0
+
+unfoldable pub before : Pair → Pair → Bool
+before a b = ltb (rank a) (rank b)
+
+unfoldable pub same : Pair → Pair → Bool
+same a b = eqb (rank a) (rank b)
+
+-- A pair whose badge and floor are words.
+pub record Words (p : Pair) : Type 0 where
+  pub badge-fits : p .badge < 4294967296
+  pub floor-fits : p .floor .0 < 4294967296
+
+-- No pair comes before the least one.
+pub least-first : rank least ≡ 0
+unfolding rank least
+least-first = refl
+
+-- By badge first, and at one badge by floor.
+pub before-badge : {a b : Pair} → Words a → Words b → (a .badge ≡ b .badge → ⊥) → before a b ≡ ltb (a .badge) (b .badge)
+unfolding rank before
+before-badge {a} {b} fa fb n =
+    let d : a .badge ≢ b .badge = n in
+    ltb-agree (rank a) (rank b) (a .badge) (b .badge) (λ h. omega arith) (λ h. omega arith)
+
+pub before-floor : (a b : Pair) → a .badge ≡ b .badge → before a b ≡ ltb (a .floor .0) (b .floor .0)
+unfolding rank before
+before-floor a b e = ltb-agree (rank a) (rank b) (a .floor .0) (b .floor .0) (λ h. omega arith) (λ h. omega arith)
+
+-- One pair: one badge and one floor.
+pub same-badge : {a b : Pair} → Words a → Words b → (a .badge ≡ b .badge → ⊥) → same a b ≡ false
+unfolding rank same
+same-badge {a} {b} fa fb n =
+    let d : a .badge ≢ b .badge = n in
+    ne-eqb (rank a) (rank b) λ h. omega arith
+
+pub same-floor : (a b : Pair) → a .badge ≡ b .badge → same a b ≡ eqb (a .floor .0) (b .floor .0)
+unfolding rank same
+same-floor a b e = eqb-agree (rank a) (rank b) (a .floor .0) (b .floor .0) (λ h. omega arith) (λ h. omega arith)
+
+-- Two pairs of one rank are one pair.
+pub rank-same : {a b : Pair} → Words a → Words b → rank a ≡ rank b → a ≡ b
+unfolding rank
+rank-same {a} {b} fa fb e =
+    let x : a .badge ≡ b .badge = omega arith in
+    let y : a .floor .0 ≡ b .floor .0 = omega arith in
+    λ i. record { badge = x i; floor = record { 0 = y i } }

@@ -1,0 +1,31 @@
+//! The landing index's second program: the paper (01-scope.md) on plain `Vec`s.
+//!
+//! It shares nothing with the proved implementation and is meant to be obviously right,
+//! not fast. Read the modules in this order.
+
+pub mod geometry;
+pub mod slot;
+pub mod variant;
+
+pub mod layout;
+pub mod tree;
+pub mod writing;
+
+pub mod form;
+pub mod reading;
+pub mod sound;
+pub mod walk;
+
+pub mod calls;
+pub mod sheet;
+
+pub mod call;
+pub mod cases;
+pub mod vectors;
+
+pub mod damage;
+pub mod digest;
+pub mod generate;
+pub mod pairs;
+pub mod random;
+pub mod replay;

@@ -1,0 +1,187 @@
+//! The second program's command line.
+
+use std::io::{Read, Write};
+use std::process::ExitCode;
+
+use second::damage::damaged;
+use second::generate::sequence;
+use second::geometry::Geometry;
+use second::random::Random;
+use second::replay::Replay;
+use second::variant::Variant;
+use second::vectors::{self, Case, Tally};
+use second::{cases, sheet};
+
+/// What is printed when a command line is not understood.
+const USAGE: &str = "usage:
+  second vectors [--build NAME] FILE...
+  second cases [--build NAME]
+  second sheet < INPUT
+  second sequences [--seed S] [--calls N] H,k,l...
+  second damaged [--seed S] [--cases N]
+  second replay [--build NAME] [--seed S] [--calls N] [--every E] [--damage D] H,k,l...";
+
+/// Every option.
+const OPTIONS: [&str; 6] = [
+    "--build", "--seed", "--calls", "--cases", "--every", "--damage",
+];
+
+/// The differences that `vectors` shows at most.
+const SHOWN: usize = 5;
+
+/// A command line taken apart: options with their values, and the rest.
+struct Line {
+    options: Vec<(String, String)>,
+    rest: Vec<String>,
+}
+
+/// Runs the command; the exit code is 1 for a difference found, 2 for a wrong command line.
+fn main() -> ExitCode {
+    let mut arguments = std::env::args().skip(1);
+    let command = arguments.next().unwrap_or_default();
+    let outcome = take_apart(arguments).and_then(|line| match command.as_str() {
+        "vectors" => run_vectors(&line),
+        "cases" => run_cases(&line),
+        "sheet" => run_sheet(),
+        "sequences" => print_sequences(&line),
+        "damaged" => print_damaged(&line),
+        "replay" => print_replay(&line),
+        _ => Err(USAGE.to_string()),
+    });
+    match outcome {
+        Ok(true) => ExitCode::SUCCESS,
+        Ok(false) => ExitCode::from(1),
+        Err(message) => {
+            eprintln!("{message}");
+            ExitCode::from(2)
+        }
+    }
+}
+
+/// Runs vector files and shows the first differences.
+fn run_vectors(line: &Line) -> Result<bool, String> {
+    let variant = line.option("--build", Variant::Right)?;
+    let mut tally = Tally::default();
+    for file in &line.rest {
+        let text = std::fs::read_to_string(file).map_err(|e| format!("{file}: {e}"))?;
+        vectors::run(variant, &text, &mut tally);
+    }
+    for difference in tally.differences.iter().take(SHOWN) {
+        println!("{difference}");
+    }
+    println!(
+        "{} cases, {} calls, {} differences",
+        tally.cases,
+        tally.calls,
+        tally.differences.len(),
+    );
+    Ok(tally.differences.is_empty() && tally.cases > 0)
+}
+
+/// Runs the bench table, one line a case.
+fn run_cases(line: &Line) -> Result<bool, String> {
+    let variant = line.option("--build", Variant::Right)?;
+    let mut all_right = true;
+    for ran in cases::run(variant) {
+        let right = ran.differences.is_empty();
+        all_right &= right;
+        let verdict = if right { "right" } else { "wrong" };
+        println!("case {}: {verdict}: {}", ran.number, ran.says);
+        for difference in ran.differences {
+            println!("  {difference}");
+        }
+    }
+    Ok(all_right)
+}
+
+/// Runs the sheet program on standard input.
+fn run_sheet() -> Result<bool, String> {
+    let mut input = Vec::new();
+    let mut stdin = std::io::stdin();
+    stdin.read_to_end(&mut input).map_err(|e| e.to_string())?;
+    print_bytes(&sheet::run(&input))
+}
+
+/// Prints a random sequence for each geometry.
+fn print_sequences(line: &Line) -> Result<bool, String> {
+    let seed: u64 = line.option("--seed", 1)?;
+    let calls = line.option("--calls", 60)?;
+    for (number, geometry) in line.geometries()?.into_iter().enumerate() {
+        let seed = seed.wrapping_add(number as u64);
+        print_case(&sequence(seed, number, geometry, calls))?;
+    }
+    Ok(true)
+}
+
+/// Prints calls on damaged stores.
+fn print_damaged(line: &Line) -> Result<bool, String> {
+    let mut random = Random::new(line.option("--seed", 1)?);
+    for number in 0..line.option("--cases", 60)? {
+        print_case(&damaged(&mut random, number))?;
+    }
+    Ok(true)
+}
+
+/// Prints the digests of a replay for each geometry.
+fn print_replay(line: &Line) -> Result<bool, String> {
+    let variant = line.option("--build", Variant::Right)?;
+    let seed: u32 = line.option("--seed", 1)?;
+    let calls = line.option("--calls", 10_000)?;
+    let every = line.option("--every", 1_000)?;
+    let damage: usize = line.option("--damage", 0)?;
+    let damage = (damage > 0).then_some(damage);
+    for geometry in line.geometries()? {
+        let replay = Replay::new(variant, geometry, seed, damage);
+        let lines = replay.lines(calls, every).join("\n");
+        print_bytes(format!("replay {geometry} seed {seed}\n{lines}\n").as_bytes())?;
+    }
+    Ok(true)
+}
+
+/// Prints a case in the vector format, with the right answers.
+fn print_case(case: &Case) -> Result<bool, String> {
+    let text = vectors::write(Variant::Right, case).join("\n") + "\n";
+    print_bytes(text.as_bytes())
+}
+
+/// Prints bytes as they are.
+fn print_bytes(bytes: &[u8]) -> Result<bool, String> {
+    let written = std::io::stdout().write_all(bytes);
+    written.map(|()| true).map_err(|e| e.to_string())
+}
+
+/// Takes a command line apart; every option has a value.
+fn take_apart(mut arguments: impl Iterator<Item = String>) -> Result<Line, String> {
+    let mut line = Line {
+        options: Vec::new(),
+        rest: Vec::new(),
+    };
+    while let Some(argument) = arguments.next() {
+        if argument.starts_with("--") {
+            let known = OPTIONS.contains(&argument.as_str());
+            let value = arguments.next().filter(|_| known).ok_or(USAGE)?;
+            line.options.push((argument, value));
+        } else {
+            line.rest.push(argument);
+        }
+    }
+    Ok(line)
+}
+
+impl Line {
+    /// The value of an option, or what it is if it is not given.
+    fn option<T: std::str::FromStr>(&self, name: &str, otherwise: T) -> Result<T, String> {
+        match self.options.iter().find(|(option, _)| option == name) {
+            Some((_, value)) => value.parse().map_err(|_| format!("{name} {value}: wrong")),
+            None => Ok(otherwise),
+        }
+    }
+
+    /// The geometries named; at least one.
+    fn geometries(&self) -> Result<Vec<Geometry>, String> {
+        if self.rest.is_empty() {
+            return Err(USAGE.to_string());
+        }
+        self.rest.iter().map(|text| text.parse()).collect()
+    }
+}

@@ -1,0 +1,61 @@
+//! The right build and the false builds, each of which a check must find.
+
+/// Which build of the program answers.
+#[derive(Clone, Copy, Debug, PartialEq, Eq)]
+pub enum Variant {
+    /// The paper's rules.
+    Right,
+    /// A fence's page number is cut to a byte.
+    PageByte,
+    /// A merge cancels only where the filter is above.
+    CancelOnlyFilterAbove,
+    /// A merge throws an unmatched filter away before the bottom.
+    DropUnmatchedFilter,
+    /// The fence of page 0 carries that page's own first pair.
+    FirstFenceOwnPair,
+    /// An internal fence names its own page.
+    InternalFenceOwnPage,
+    /// Put tests full before held.
+    FullBeforeHeld,
+    /// Every call is refused.
+    RefusesAll,
+    /// Ask says held to everything.
+    SaysHeld,
+    /// Calls answer, but no lent word changes.
+    WritesNothing,
+    /// List is right for its first pair only.
+    ListFirstOnly,
+    /// Put and drop report no pages written.
+    PagesZero,
+    /// Put and drop report one page too many for a merge.
+    PagesOneMore,
+}
+
+/// Every false build.
+pub const FALSE_BUILDS: [Variant; 12] = [
+    Variant::PageByte,
+    Variant::CancelOnlyFilterAbove,
+    Variant::DropUnmatchedFilter,
+    Variant::FirstFenceOwnPair,
+    Variant::InternalFenceOwnPage,
+    Variant::FullBeforeHeld,
+    Variant::RefusesAll,
+    Variant::SaysHeld,
+    Variant::WritesNothing,
+    Variant::ListFirstOnly,
+    Variant::PagesZero,
+    Variant::PagesOneMore,
+];
+
+impl std::str::FromStr for Variant {
+    type Err = String;
+
+    /// The build of this name.
+    fn from_str(name: &str) -> Result<Variant, String> {
+        [Variant::Right]
+            .into_iter()
+            .chain(FALSE_BUILDS)
+            .find(|build| format!("{build:?}") == name)
+            .ok_or(format!("{name}: no build of that name"))
+    }
+}

@@ -1,0 +1,55 @@
+//! Every false build is found, by the vectors or by a replay beside the right one.
+
+mod common;
+
+use second::geometry::Geometry;
+use second::replay::Replay;
+use second::variant::{Variant, FALSE_BUILDS};
+use second::vectors::{run, Tally};
+
+/// The differences of a build from the vectors.
+fn differences(variant: Variant) -> usize {
+    let mut tally = Tally::default();
+    for text in common::vector_texts() {
+        run(variant, &text, &mut tally);
+    }
+    tally.differences.len()
+}
+
+/// The first call of a replay after which a build differs from the right one.
+fn replay_finds(variant: Variant, geometry: Geometry, calls: usize) -> Option<usize> {
+    let right = Replay::new(Variant::Right, geometry, 1, None);
+    let other = Replay::new(variant, geometry, 1, None);
+    right.first_difference(other, calls)
+}
+
+#[test]
+fn the_right_build_has_no_difference() {
+    assert_eq!(differences(Variant::Right), 0);
+    let geometry = common::geometry("10,4,3");
+    assert_eq!(replay_finds(Variant::Right, geometry, 3000), None);
+}
+
+#[test]
+fn the_vectors_find_all_but_a_page_number_cut_to_a_byte() {
+    for variant in FALSE_BUILDS {
+        let found = differences(variant) > 0;
+        assert_eq!(found, variant != Variant::PageByte, "{variant:?}");
+    }
+}
+
+#[test]
+fn a_replay_finds_all_but_a_page_number_cut_to_a_byte() {
+    let geometry = common::geometry("10,4,3");
+    for variant in FALSE_BUILDS {
+        let found = replay_finds(variant, geometry, 3000).is_some();
+        assert_eq!(found, variant != Variant::PageByte, "{variant:?}");
+    }
+}
+
+#[test]
+fn a_large_replay_finds_a_page_number_cut_to_a_byte() {
+    let geometry = common::geometry("64,8,4");
+    let found = replay_finds(Variant::PageByte, geometry, 16_000);
+    assert!(found.is_some());
+}
