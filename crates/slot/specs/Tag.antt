@@ -74,3 +74,8 @@ page-back k p =
 pub tag-again : (tag : ℕ) → tagOf (kindOf tag) (pageOf tag) ≡ tag
 unfolding kindOf pageOf tagOf
 tag-again tag = rw (named-kind (tag % 4) (omega arith)) (omega arith)
+
+-- The bench table's case 9: a fence to page 300 has tag 1202, and reads back as 300.
+pub page-300 : (tagOf External (record { 0 = 300 }) ≡ 1202) × (pageOf 1202 ≡ record { 0 = 300 })
+unfolding tagOf pageOf
+page-300 = (refl, page-back External (record { 0 = 300 }))
