@@ -56,6 +56,10 @@ pub count-before-slots : (g : Geometry) (i p j : ℕ) → pagePlace g i p + 1 �
 unfolding slotPlace
 count-before-slots g i p j = omega arith
 
+pub first-slot : (g : Geometry) (i p : ℕ) → slotPlace g i p 0 ≡ pagePlace g i p + 1
+unfolding slotPlace
+first-slot g i p = omega arith
+
 -- Two different places never overlap: an earlier level, an earlier page of a level, an earlier slot of a page ends before a later one begins.
 pub levels-apart : (g : Geometry) (i p i′ p′ : ℕ) → i < i′ → p < room g i → pagePlace g i (suc p) ≤ pagePlace g i′ p′
 unfolding pagePlace

@@ -2,7 +2,7 @@
 use Prim.Native.Nat.{ℕ, _<_, _≤_}
 use native.Mathlib.Omega.{arith}
 use mathlib.Core.Path.{_≡_, refl, _∙_, sym}
-use mathlib.Core.Bool.{Bool, true, false, not, _&&_}
+use mathlib.Core.Bool.{Bool, true, false, not, _&&_, false≢true}
 use borrow.Author.Tests.{not-true, not-false, lt-ltb, le-ltb, ltb-true, ltb-false, eq-eqb, ne-eqb, eqb-true, eqb-false}
 use lib.Dec.{ltb, eqb}
 
@@ -53,3 +53,37 @@ eqb-agree a b c d f g = picked (eqb c d) refl
     picked : (t : Bool) → eqb c d ≡ t → eqb a b ≡ t
     picked true e = eq-eqb a b (g (eqb-true c d e))
     picked false e = ne-eqb a b λ h. eqb-false c d e (f h)
+
+-- What was found so far and what is found now, each of two kinds, kept kind by kind.
+pub and-regroup : (a m l x y : Bool) → ((a && (m && l)) && (x && y)) ≡ (a && ((m && x) && (l && y)))
+and-regroup true true true x y = refl
+and-regroup true true false true y = refl
+and-regroup true true false false y = refl
+and-regroup true false l x y = refl
+and-regroup false m l x y = refl
+
+pub and-true : (a : Bool) → (a && true) ≡ a
+and-true true = refl
+and-true false = refl
+
+pub and-false : (a : Bool) → (a && false) ≡ false
+and-false true = refl
+and-false false = refl
+
+pub and-assoc : (a b c : Bool) → ((a && b) && c) ≡ (a && (b && c))
+and-assoc true b c = refl
+and-assoc false b c = refl
+
+-- Tests that all pass, each by itself.
+pub and-three : (a b c : Bool) → (a && b && c) ≡ true → (a ≡ true) × (b ≡ true) × (c ≡ true)
+and-three true true c p = (refl, refl, p)
+and-three true false c p = absurd (false≢true p)
+and-three false b c p = absurd (false≢true p)
+
+pub and-six : (a b c d e f : Bool) → (a && b && c && d && e && f) ≡ true → (a ≡ true) × (b ≡ true) × (c ≡ true) × (d ≡ true) × (e ≡ true) × (f ≡ true)
+and-six true true true true true f p = (refl, refl, refl, refl, refl, p)
+and-six true true true true false f p = absurd (false≢true p)
+and-six true true true false e f p = absurd (false≢true p)
+and-six true true false d e f p = absurd (false≢true p)
+and-six true false c d e f p = absurd (false≢true p)
+and-six false b c d e f p = absurd (false≢true p)

@@ -1,12 +1,12 @@
 -- The order of pairs, by badge and then floor, and its laws. A pair's rank is its place in that order, so that an order of pairs
 -- is one of numbers; nothing outside this module looks into it. Assumes nothing.
-use Prim.Native.Nat.{ℕ, _+_, _*_, _<_}
+use Prim.Native.Nat.{ℕ, zero, suc, _+_, _*_, _<_}
 use native.Mathlib.Omega.{arith}
 use mathlib.Core.Path.{_≡_, refl}
 use mathlib.Core.Logic.{_≢_}
-use mathlib.Core.Bool.{Bool, false}
+use mathlib.Core.Bool.{Bool, true, false, _||_}
 use lib.Dec.{ltb, eqb}
-use borrow.Author.Tests.{ne-eqb}
+use borrow.Author.Tests.{lt-ltb, le-ltb, ltb-true, eqb-true, ne-eqb}
 use Rattle.laws.specs.Tests.{ltb-agree, eqb-agree}
 use Rattle.slot.specs.declared.Pair.{Pair}
 
@@ -37,6 +37,28 @@ pub record Words (p : Pair) : Type 0 where
 pub least-first : rank least ≡ 0
 unfolding rank least
 least-first = refl
+
+-- The least pair comes before any other.
+pub least-or-same : (p : Pair) → (before least p || same least p) ≡ true
+unfolding before same
+least-or-same p = rw least-first (first-or-same (rank p))
+  where
+    first-or-same : (n : ℕ) → (ltb 0 n || eqb 0 n) ≡ true
+    first-or-same zero = refl
+    first-or-same (suc n) = rw (lt-ltb 0 (suc n) (omega arith))
+
+pub none-before-least : (a p : Pair) → same least p ≡ true → before a p ≡ false
+unfolding before same
+none-before-least a p e = le-ltb (rank a) (rank p) (omega (arith, least-first, eqb-true (rank least) (rank p) e))
+
+-- The order is total and transitive.
+pub before-trans : (a b c : Pair) → before a b ≡ true → before b c ≡ true → before a c ≡ true
+unfolding before
+before-trans a b c p q = lt-ltb (rank a) (rank c) (omega (arith, ltb-true (rank a) (rank b) p, ltb-true (rank b) (rank c) q))
+
+pub before-same : (a b c : Pair) → before a b ≡ true → same b c ≡ true → before a c ≡ true
+unfolding before same
+before-same a b c p q = lt-ltb (rank a) (rank c) (omega (arith, ltb-true (rank a) (rank b) p, eqb-true (rank b) (rank c) q))
 
 -- By badge first, and at one badge by floor.
 pub before-badge : {a b : Pair} → Words a → Words b → (a .badge ≡ b .badge → ⊥) → before a b ≡ ltb (a .badge) (b .badge)

@@ -3,7 +3,7 @@ ghost use Prim.Native.Nat.{_+_, _*_, _^_, _≤_, _<_};
 ghost use mathlib.Core.Path.{_≡_};
 ghost use lib.ListN.{length};
 ghost use lib.Seq.{sets};
-ghost use Rattle.slot.specs.Pair.{before, same};
+ghost use Rattle.slot.specs.Pair.{least, before, same};
 ghost use Rattle.slot.specs.Tag.{kindNumber, kindOf, pageOf, tagOf};
 ghost use Rattle.slot.specs.Slot.{slotAt, wordsOf};
 
@@ -34,6 +34,16 @@ pub struct Slot {
     pub pair: Pair,
     pub kind: Kind,
     pub page: Pid,
+}
+
+// The least pair.
+pub fn least_pair() -> Pair
+    ensures { λ r. ⌜ r ≡ least ⌝ }
+{
+    Pair {
+        badge: 0,
+        floor: Rid(0),
+    }
 }
 
 // Whether a comes before b in the order of pairs: by badge, then floor.

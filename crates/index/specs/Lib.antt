@@ -1,0 +1,4 @@
+-- The public calls on any words, in the paper's numbers: the tests that come first (Opening), then each call.
+pub mod Reply
+pub mod Opening
+pub mod Ask

@@ -1,0 +1,75 @@
+-- `scan_run` gives the pass over a run. The loop's invariant: the pass from here on over what is left is the pass over the whole. Assumes nothing.
+use mathlib.Core.Path.{_∙_, sym, ap, _≡_}
+use Rattle.slot.specs.declared.Slot.{Slot}
+use Rattle.page.specs.Scan.{scannedFrom, stepped, Within, started-within, stepped-within, scan-begins, scan-goes-on, scan-ends, started, scanned}
+use Prim.Native.Nat.{_≤_, _-_}
+use Rattle.rules.specs.Sound.{slotsFrom}
+use borrow.Author.Needs.{needs}
+use native.Mathlib.Omega.{arith}
+use Rattle.page.proofs.scan_run.Statement.{statement}
+use Rattle.page.proofs.scan_run.Tie as tie
+
+abbrev Inv-loop : tie.InvT-loop
+Inv-loop words place count asked inner below scan₀ j₀ scan j =
+    (j ≤ count) × (Within j scan) ×
+    (scannedFrom asked inner below words place count j scan ≡ scanned asked inner below started (slotsFrom words place count))
+
+abbrev μ-loop : tie.MeasureT-loop
+μ-loop words place count asked inner below scan₀ j₀ scan j = count - j
+
+scan-start-requires : tie.Need-scan-start-requires Inv-loop μ-loop
+scan-start-requires c κs = search needs
+
+loop-holds : tie.Need-loop-holds Inv-loop μ-loop
+loop-holds c =
+    let a = c .before .before .args in
+    (omega arith, rw (c .scan-start .ensures) started-within, rw (c .scan-start .ensures) (scan-begins (a .asked) (a .inner) (a .below) (a .words .now) (a .place) (a .count)))
+
+mul-read-slot : tie.Need-mul-read-slot Inv-loop μ-loop
+mul-read-slot c = search needs
+
+add-read-slot : tie.Need-add-read-slot Inv-loop μ-loop
+add-read-slot c = search needs
+
+read-slot-requires : tie.Need-read-slot-requires Inv-loop μ-loop
+read-slot-requires c κs = search needs
+
+scan-step-requires : tie.Need-scan-step-requires Inv-loop μ-loop
+scan-step-requires c κs = search needs
+
+add-j : tie.Need-add-j Inv-loop μ-loop
+add-j c = search needs
+
+loop-less : tie.Need-loop-less Inv-loop μ-loop
+loop-less c = search needs
+
+loop-again : tie.Need-loop-again Inv-loop μ-loop
+loop-again c =
+    let a = c .before .before .before .before .before .before .args in
+    let e = c .scan-step .ensures ∙ ap (λ (s : Slot). stepped (a .asked) (a .inner) (a .below) (c .before .before .before .loop .scan) s) (c .before .read-slot .ensures) in (
+      omega arith,
+      rw e (stepped-within (a .asked) (a .inner) (a .below) (c .before .before .before .loop .j) (c .before .before .before .loop .scan) _ (c .before .before .before .loop .inv .1)),
+      rw e (sym (scan-goes-on (a .asked) (a .inner) (a .below) (a .words .now) (a .place) (a .count) (c .before .before .before .loop .j) (c .before .before .before .loop .scan) (c .before .before .loop-test .taken)) ∙ c .before .before .before .loop .inv .2),
+    )
+
+returns : tie.Need-returns Inv-loop μ-loop
+returns c =
+    let a = c .before .before .before .before .args in
+    sym (scan-ends (a .asked) (a .inner) (a .below) (a .words .now) (a .place) (a .count) (c .before .loop .j) (c .before .loop .scan) (c .loop-test .left)) ∙ c .before .loop .inv .2
+
+pub scan-run-spec : {M : Type 1} → statement M
+scan-run-spec =
+    tie.close
+    (tie.spec
+    Inv-loop
+    μ-loop
+    scan-start-requires
+    loop-holds
+    mul-read-slot
+    add-read-slot
+    read-slot-requires
+    scan-step-requires
+    add-j
+    loop-less
+    loop-again
+    returns)

@@ -1,0 +1,72 @@
+-- `directory_right` tests the directory, from what `pages_right` ensures of each level. Assumes nothing.
+use Rattle.laws.specs.Lists.{all-three}
+use Rattle.rules.specs.Sound.{directoryRight, pagesRight}
+use Rattle.geometry.specs.Lent.{most-at}
+use borrow.Author.Needs.{needs}
+use Rattle.walk.proofs.directory_right.Statement.{statement}
+use Rattle.walk.proofs.directory_right.Tie as tie
+
+sub-bottom : tie.Need-sub-bottom
+sub-bottom c = search needs
+
+cast-bottom : tie.Need-cast-bottom
+cast-bottom c = search needs
+
+mul-most : tie.Need-mul-most
+mul-most c = search needs
+
+element-copy-out-most : tie.Need-element-copy-out-most
+element-copy-out-most c = search needs
+
+pages-right-requires : tie.Need-pages-right-requires
+pages-right-requires c κs = search needs
+
+pages-right-requires-2 : tie.Need-pages-right-requires-2
+pages-right-requires-2 c κs = search needs
+
+pages-right-requires-3 : tie.Need-pages-right-requires-3
+pages-right-requires-3 c κs = search needs
+
+both-requires : tie.Need-both-requires
+both-requires c κs = search needs
+
+both-requires-2 : tie.Need-both-requires-2
+both-requires-2 c κs = search needs
+
+shared-slice-read-both : tie.Need-shared-slice-read-both
+shared-slice-read-both c = search needs
+
+both-requires-3 : tie.Need-both-requires-3
+both-requires-3 c κs = search needs
+
+shared-slice-read-both-2 : tie.Need-shared-slice-read-both-2
+shared-slice-read-both-2 c = search needs
+
+both-requires-4 : tie.Need-both-requires-4
+both-requires-4 c κs = search needs
+
+returns : tie.Need-returns
+unfolding directoryRight
+returns c =
+    let g = c .before .before .before .before .before .before .before .before .before .before .before .before .args .g in
+    let w = c .before .before .before .before .before .before .before .before .before .before .before .before .args .store .now in
+    rw (c .both4 .ensures, c .before .before .both3 .ensures, c .before .before .before .before .both2 .ensures, c .before .before .before .before .before .both .ensures, c .before .before .before .before .before .before .pages-right3 .ensures, c .before .before .before .before .before .before .before .pages-right2 .ensures, c .before .before .before .before .before .before .before .before .pages-right .ensures, ← most-at g (c .before .before .before .before .before .before .before .before .before .before .before .before .args .t3) w (c .before .before .before .before .before .before .before .before .before .before .before .before .pre), all-three (pagesRight g w) 1 2 3)
+
+pub directory-right-spec : {M : Type 1} → statement M
+directory-right-spec =
+    tie.close
+    (tie.spec
+    sub-bottom
+    cast-bottom
+    mul-most
+    element-copy-out-most
+    pages-right-requires
+    pages-right-requires-2
+    pages-right-requires-3
+    both-requires
+    both-requires-2
+    shared-slice-read-both
+    both-requires-3
+    shared-slice-read-both-2
+    both-requires-4
+    returns)

@@ -1,0 +1,104 @@
+-- The walk from the head down: in the head, and then in one page of each lower level. Assumes nothing.
+use Prim.Native.Nat.{ℕ, zero, suc, _+_, _-_, _≤_, _<_}
+use native.Mathlib.Omega.{arith}
+use mathlib.Core.Path.{_≡_, refl}
+use mathlib.Core.Bool.{Bool, true, false, cond, _&&_}
+use mathlib.Core.List.{List, [], _∷_}
+use lib.ListN.{getD}
+use lib.Dec.{leb, eqb}
+use borrow.Author.Tests.{lt-ltb, leb-true}
+use Rattle.laws.specs.Tests.{and-left, and-right, and-three}
+use Rattle.laws.specs.Lists.{all, all-three}
+use Rattle.geometry.specs.declared.Geometry.{Geometry}
+use Rattle.geometry.specs.Geometry.{bottom, most, room}
+use Rattle.geometry.specs.Places.{liveWord, pagesWord, reservedWord}
+use Rattle.slot.specs.declared.Pair.{Pair}
+use Rattle.slot.specs.declared.Pid.{Pid}
+use Rattle.rules.specs.Sound.{pagesOf, pagesRight, directoryRight}
+use Rattle.walk.specs.declared.Step.{Step}
+use Rattle.walk.specs.declared.Step.the-variants.{Decided, Follow, Nothing, Broken}
+use Rattle.walk.specs.declared.Walked.{Walked}
+use Rattle.walk.specs.declared.Walked.the-variants.{Found, Fault}
+use Rattle.walk.specs.Step.{headStep, pageStep}
+
+-- What level i told, with n levels below it. Where none decides, the level given is l.
+unfoldable pub walkOn : Geometry → List ℕ → Pair → ℕ → ℕ → Step → Walked
+walkOn g w asked zero i (Decided held) = Found held i
+walkOn g w asked zero i (Follow page) = Found false (g .levels)
+walkOn g w asked zero i Nothing = Found false (g .levels)
+walkOn g w asked zero i Broken = Fault i
+walkOn g w asked (suc n) i (Decided held) = Found held i
+walkOn g w asked (suc n) i (Follow page) = walkOn g w asked n (suc i) (pageStep g w asked (suc i) (page .0))
+walkOn g w asked (suc n) i Nothing = Found false (g .levels)
+walkOn g w asked (suc n) i Broken = Fault i
+
+-- The directory and the head are level 0.
+unfoldable pub walked : Geometry → List ℕ → Pair → Walked
+walked g w asked = cond (directoryRight g w) (walkOn g w asked (bottom g) 0 (headStep g w asked)) (Fault 0)
+
+-- The walk from a page of level i on.
+unfoldable pub walkFrom : Geometry → List ℕ → Pair → ℕ → ℕ → Walked
+walkFrom g w asked i page = walkOn g w asked (g .levels - i) (i - 1) (Follow (record { 0 = page }))
+
+-- What each level tells, and where the walk goes on.
+module _ (g : Geometry) (w : List ℕ) (asked : Pair) where
+  pub walk-decided : (n i : ℕ) (held : Bool) → walkOn g w asked n i (Decided held) ≡ Found held i
+  unfolding walkOn
+  walk-decided zero i held = refl
+  walk-decided (suc n) i held = refl
+
+  pub walk-nothing : (n i : ℕ) → walkOn g w asked n i Nothing ≡ Found false (g .levels)
+  unfolding walkOn
+  walk-nothing zero i = refl
+  walk-nothing (suc n) i = refl
+
+  pub walk-broken : (n i : ℕ) → walkOn g w asked n i Broken ≡ Fault i
+  unfolding walkOn
+  walk-broken zero i = refl
+  walk-broken (suc n) i = refl
+
+  pub walk-into : (i page : ℕ) → 1 ≤ i → i < g .levels →
+      walkFrom g w asked i page ≡ walkOn g w asked (g .levels - (i + 1)) i (pageStep g w asked i page)
+  unfolding walkFrom walkOn
+  walk-into i page k h =
+      let n : g .levels - i ≡ suc (g .levels - (i + 1)) = omega arith in
+      let s : suc (i - 1) ≡ i = omega arith in
+      rw (n, walkOn, s)
+
+  pub walk-follows : (i : ℕ) (page : Pid) → walkOn g w asked (g .levels - (i + 1)) i (Follow page) ≡ walkFrom g w asked (i + 1) (page .0)
+  unfolding walkFrom
+  walk-follows i page =
+      let s : i + 1 - 1 ≡ i = omega arith in
+      rw s
+
+  pub walk-ends : (i page : ℕ) → g .levels ≤ i → walkFrom g w asked i page ≡ Found false (g .levels)
+  unfolding walkFrom walkOn
+  walk-ends i page h =
+      let n : g .levels - i ≡ 0 = omega arith in
+      rw n
+
+-- The directory keeps page counts within their rooms.
+room-kept : (g : Geometry) (w : List ℕ) (i : ℕ) → i < g .levels → pagesRight g w i ≡ true → pagesOf g w i ≤ room g i
+unfolding pagesRight pagesOf
+room-kept g w i h e =
+    rw (lt-ltb i (g .levels) h, pagesOf)
+    (leb-true (getD w (pagesWord i) 0) (room g i) (and-right (leb 1 (getD w (pagesWord i) 0)) (leb (getD w (pagesWord i) 0) (room g i)) (rw (lt-ltb i (g .levels) h, pagesRight) at e)))
+
+pub pages-in-room : (g : Geometry) (w : List ℕ) (i : ℕ) → g .levels ≤ 4 → directoryRight g w ≡ true → 1 ≤ i → i < g .levels → pagesOf g w i ≤ room g i
+unfolding directoryRight
+pages-in-room g w i four right k h = at-level i (omega arith) k h
+  where
+    tests : (pagesRight g w 1 && (pagesRight g w 2 && pagesRight g w 3)) ≡ true
+    tests =
+        rw (all-three (pagesRight g w) 1 2 3) at
+        (and-three (leb (getD w liveWord 0) (most g)) (all (pagesRight g w) (1 ∷ 2 ∷ 3 ∷ [])) (eqb (getD w reservedWord 0) 0) right .1)
+
+    later : (pagesRight g w 2 && pagesRight g w 3) ≡ true
+    later = and-right (pagesRight g w 1) (pagesRight g w 2 && pagesRight g w 3) tests
+
+    at-level : (i : ℕ) → i ≤ 3 → 1 ≤ i → i < g .levels → pagesOf g w i ≤ room g i
+    at-level zero m k h = absurd (omega arith)
+    at-level (suc zero) m k h = room-kept g w 1 h (and-left (pagesRight g w 1) (pagesRight g w 2 && pagesRight g w 3) tests)
+    at-level (suc (suc zero)) m k h = room-kept g w 2 h (and-left (pagesRight g w 2) (pagesRight g w 3) later)
+    at-level (suc (suc (suc zero))) m k h = room-kept g w 3 h (and-right (pagesRight g w 2) (pagesRight g w 3) later)
+    at-level (suc (suc (suc (suc i)))) m k h = absurd (omega arith)
