@@ -1,3 +1,4 @@
 -- Laws of tests and of lists that speak of nothing of the index.
 pub mod Tests
 pub mod Lists
+pub mod Flat
