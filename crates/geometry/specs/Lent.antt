@@ -10,7 +10,7 @@ use Rattle.geometry.specs.declared.Plan.{Plan}
 use Rattle.geometry.specs.Geometry.{InRange, bottom, capacity, most, room, within, capacities, rooms}
 use Rattle.geometry.specs.Places.{headRoom, levelStart, pagePlace, planOf, storeWords}
 use Rattle.geometry.specs.Bounds.{PlanSmall, within-is}
-use Rattle.geometry.specs.Apart.{plan-small, page-inside, level-inside}
+use Rattle.geometry.specs.Apart.{plan-small, level-after, page-inside, level-inside}
 
 pub record Lent (g : Geometry) (plan : Plan) (w : List ℕ) : Type 0 where
   pub in-range : InRange g
@@ -79,6 +79,16 @@ module _ (g : Geometry) (plan : Plan) (w : List ℕ) (l : Lent g plan w) where
   pub head-least : 1 ≤ headRoom g
   unfolding headRoom
   head-least = omega (arith, l .in-range .head-least)
+
+  -- A level's room lies inside the store, and the next level begins where it ends.
+  pub room-at : (i : ℕ) → 1 ≤ i → i < g .levels →
+      (getD (plan .starts) i 0 + 64 * getD (plan .rooms) i 0 ≡ levelStart g (suc i)) × (getD (plan .starts) i 0 + 64 * getD (plan .rooms) i 0 ≤ length w)
+  unfolding storeWords
+  room-at i k h =
+      let three : i ≤ 3 = omega (arith, l .in-range .levels-most) in
+      let s = starts-at i k three in
+      let r = rooms-at i three in
+      (omega (arith, s, r, level-after g i), omega (arith, s, r, level-after g i, level-inside g i (omega arith), l .exact))
 
 -- The plan's store words.
 pub plan-words : (plan : Plan) (g : Geometry) → plan ≡ planOf g → plan .«store_words» ≡ storeWords g

@@ -176,11 +176,19 @@ pub data Fault : Type 0 where
   sound : Fault
   faultAt : ℕ → Fault
 
-unfoldable pub firstFault : Geometry → List ℕ → ℕ → ℕ → Fault
-firstFault g w i zero =
-    let t = treeOf g w in
-    elim (alternating t && liveRight (getD w liveWord 0) t) [ true ↦ sound | false ↦ faultAt (g .levels) ]
-firstFault g w i (suc n) = elim (levelSound g w i) [ true ↦ firstFault g w (suc i) n | false ↦ faultAt i ]
+-- Of n levels from level i on, the first that is faulty.
+unfoldable pub levelsFault : Geometry → List ℕ → ℕ → ℕ → Fault
+levelsFault g w i zero = sound
+levelsFault g w i (suc n) = elim (levelSound g w i) [ true ↦ levelsFault g w (suc i) n | false ↦ faultAt i ]
+
+-- Kinds, alternation and live across levels.
+unfoldable pub acrossFault : Geometry → List ℕ → Fault
+acrossFault g w = elim (alternating (treeOf g w) && liveRight (getD w liveWord 0) (treeOf g w)) [ true ↦ sound | false ↦ faultAt (g .levels) ]
+
+-- Where the first finds nothing, the second is looked for.
+unfoldable pub else : Fault → Fault → Fault
+else sound later = later
+else (faultAt i) later = faultAt i
 
 unfoldable pub fault : Geometry → List ℕ → Fault
-fault g w = elim (directoryRight g w && headSound g w) [ true ↦ firstFault g w 1 (bottom g) | false ↦ faultAt 0 ]
+fault g w = elim (directoryRight g w && headSound g w) [ true ↦ else (levelsFault g w 1 (bottom g)) (acrossFault g w) | false ↦ faultAt 0 ]

@@ -44,7 +44,7 @@ pub enum Walked {
 }
 
 // The page count that the directory gives the level below, none below the bottom.
-fn pages_below(store: &[u32], g: Geometry, level: usize) -> u32
+pub fn pages_below(store: &[u32], g: Geometry, level: usize) -> u32
     requires { ⌜ (9 ≤ length (now store)) × (level ≤ 3) ⌝ }
     ensures { λ r. ⌜ r ≡ pagesOf g (now (store .entry)) (level + 1) ⌝ }
 {

@@ -1,0 +1,6 @@
+-- The index entries of a run in lent words, from a cursor on (Run), the runs of a store's levels (Levels), and levels
+-- that ascend (Ascending), as the tests of soundness show (Ready).
+pub mod Run
+pub mod Levels
+pub mod Ascending
+pub mod Ready

@@ -1,0 +1,169 @@
+-- What the tests of soundness show of a store's levels: page counts within the rooms, and levels that ascend. Assumes nothing.
+use Prim.Native.Nat.{ℕ, zero, suc, _+_, _-_, _*_, _≤_, _<_}
+use native.Mathlib.Omega.{arith}
+use mathlib.Core.Path.{_≡_, refl, ap, subst, _∙_}
+use mathlib.Core.Bool.{Bool, true, false, _&&_, _||_}
+use mathlib.Core.List.{List, [], _∷_}
+use lib.ListN.{length, getD, take, drop}
+use lib.Dec.{leb, ltb, eqb}
+use borrow.Author.Tests.{leb-true, eqb-true, eqb-false}
+use Rattle.laws.specs.Lists.{span, all, equal}
+use Rattle.laws.specs.Tests.{and-left, and-right}
+use Rattle.geometry.specs.declared.Geometry.{Geometry}
+use Rattle.geometry.specs.Geometry.{most, room}
+use Rattle.geometry.specs.Places.{liveWord, pagesWord, reservedWord, headCountWord, headRoom, headStart, levelStart}
+use Rattle.slot.specs.declared.Slot.{Slot}
+use Rattle.slot.specs.Pair.{rank, before, same}
+use Rattle.slot.specs.Order.{before-below, same-level, below-before}
+use Rattle.rules.specs.Tree.{Level, rankOf}
+use Rattle.rules.specs.Level.{fenceKind, pagesFor, fences, weave}
+use Rattle.rules.specs.Finding.{normalKind}
+use Rattle.rules.specs.Store.{runWords, levelWords}
+use Rattle.rules.specs.Sound.{pagesOf, headSlots, levelSlots, entriesOf, firstAt, treeOf, pagesRight, directoryRight, follows, inOrder, legal, fencePages, firstIsLeast, headRight, pageFormed, ascending, levelLaid, withinCapacity, levelSound, headSound, Fault, sound, faultAt, levelsFault, acrossFault, else, fault}
+use Rattle.entries.specs.Levels.{PagesWithin}
+use Rattle.entries.specs.Ascending.{From, from-lower, levelsAscend, chain-first}
+
+-- The directory's page counts -----------------------------------------------------------------------------------------------------------------
+
+pages-right : (g : Geometry) (w : List ℕ) (i : ℕ) → pagesRight g w i ≡ true → pagesOf g w i ≤ room g i
+unfolding pagesRight pagesOf
+pages-right g w i e = picked (ltb i (g .levels)) e
+  where
+    picked : (b : Bool) → elim b [ true ↦ leb 1 (getD w (pagesWord i) 0) && leb (getD w (pagesWord i) 0) (room g i) | false ↦ eqb (getD w (pagesWord i) 0) 0 ] ≡ true →
+        elim b as (λ _. ℕ) [ true ↦ getD w (pagesWord i) 0 | false ↦ 0 ] ≤ room g i
+    picked true q = leb-true (getD w (pagesWord i) 0) (room g i) (and-right (leb 1 (getD w (pagesWord i) 0)) (leb (getD w (pagesWord i) 0) (room g i)) q)
+    picked false q = omega arith
+
+pub pages-within : (g : Geometry) (w : List ℕ) → directoryRight g w ≡ true → PagesWithin g w
+unfolding directoryRight all
+pages-within g w e =
+    let live : Bool = leb (getD w liveWord 0) (most g) in
+    let counts : Bool = all (pagesRight g w) (1 ∷ 2 ∷ 3 ∷ []) in
+    let one = chain-first (pagesRight g w 1) (all (pagesRight g w) (2 ∷ 3 ∷ [])) (and-right live counts (and-left (live && counts) (eqb (getD w reservedWord 0) 0) e)) in
+    let two = chain-first (pagesRight g w 2) (all (pagesRight g w) (3 ∷ [])) (one .1) in
+    let three = chain-first (pagesRight g w 3) true (two .1) in
+    record { first = pages-right g w 1 (one .0); second = pages-right g w 2 (two .0); third = pages-right g w 3 (three .0) }
+
+-- Slots in order have entries that ascend ------------------------------------------------------------------------------------------------------
+
+-- What an entry after a slot is at least.
+bound : Slot → ℕ
+bound s = elim (fenceKind (s .kind)) [ true ↦ rank (s .pair) | false ↦ suc (rank (s .pair)) ]
+
+follows-bound : (s u : Slot) → follows s u ≡ true → bound s ≤ rank (u .pair)
+unfolding follows bound
+follows-bound s u e = picked (before (s .pair) (u .pair)) (same (s .pair) (u .pair)) (fenceKind (s .kind)) refl refl e
+  where
+    picked : (b c fence : Bool) → before (s .pair) (u .pair) ≡ b → same (s .pair) (u .pair) ≡ c → (b || (c && fence)) ≡ true →
+        elim fence as (λ _. ℕ) [ true ↦ rank (s .pair) | false ↦ suc (rank (s .pair)) ] ≤ rank (u .pair)
+    picked true c true x y q = omega (arith, before-below (s .pair) (u .pair) x)
+    picked true c false x y q = before-below (s .pair) (u .pair) x
+    picked false true true x y q = omega (arith, same-level (s .pair) (u .pair) y)
+    picked false true false x y q = let z : _≡_ {A = ℕ} 0 1 = cc in absurd (omega arith)
+    picked false false fence x y q = let z : _≡_ {A = ℕ} 0 1 = cc in absurd (omega arith)
+
+entries-on : (n : ℕ) (u : Slot) (us : List Slot) → n ≤ rank (u .pair) → From (bound u) (entriesOf us) → From n (entriesOf (u ∷ us))
+unfolding entriesOf bound From
+entries-on n u us h a = picked (fenceKind (u .kind)) a
+  where
+    picked : (fence : Bool) → From (elim fence [ true ↦ rank (u .pair) | false ↦ suc (rank (u .pair)) ]) (entriesOf us) →
+        From n (elim fence [ true ↦ entriesOf us | false ↦ record { pair = u .pair; normal = normalKind (u .kind) } ∷ entriesOf us ])
+    picked true b = from-lower n (rank (u .pair)) (entriesOf us) h b
+    picked false b = (h, b)
+
+order-from : (s : Slot) (ss : List Slot) → inOrder (s ∷ ss) ≡ true → From (bound s) (entriesOf ss)
+unfolding inOrder entriesOf From
+order-from s [] e = tt
+order-from s (u ∷ us) e =
+    let told = chain-first (follows s u) (inOrder (u ∷ us)) e in
+    entries-on (bound s) u us (follows-bound s u (told .0)) (order-from u us (told .1))
+
+ascending-from : (n : ℕ) (es : Level) → From n es → ascending es ≡ true
+unfolding From ascending
+ascending-from n [] a = refl
+ascending-from n (e ∷ []) a = refl
+ascending-from n (e ∷ f ∷ es) a =
+    ap (λ (b : Bool). elim b [ true ↦ ascending (f ∷ es) | false ↦ false ]) (below-before (e .pair) (f .pair) (a .1 .0)) ∙ ascending-from (suc (rankOf e)) (f ∷ es) (a .1)
+
+pub order-ascends : (ss : List Slot) → inOrder ss ≡ true → ascending (entriesOf ss) ≡ true
+unfolding entriesOf ascending
+order-ascends [] e = refl
+order-ascends (s ∷ ss) e = ascending-from 0 (entriesOf (s ∷ ss)) (entries-on 0 s ss (omega arith) (order-from s ss e))
+
+-- The levels of a store that passed ---------------------------------------------------------------------------------------------------------------
+
+pub head-ascends : (g : Geometry) (w : List ℕ) → headRight g w ≡ true → ascending (entriesOf (headSlots g w)) ≡ true
+unfolding headRight
+head-ascends g w e =
+    let ss : List Slot = headSlots g w in
+    let a : Bool = leb (getD w headCountWord 0) (headRoom g) && ltb (length (entriesOf ss)) (g .head) in
+    let c : Bool = all (legal false (pagesOf g w 1)) ss in
+    let d : Bool = equal (fencePages ss) (span (λ p. p) 0 (pagesOf g w 1)) in
+    let f : Bool = firstIsLeast ss in
+    order-ascends ss (and-right a (inOrder ss) (and-left (a && inOrder ss) c (and-left (a && inOrder ss && c) d (and-left (a && inOrder ss && c && d) f e))))
+
+pub level-ascends : (g : Geometry) (w : List ℕ) (i : ℕ) → levelSound g w i ≡ true → ascending (entriesOf (levelSlots g w i)) ≡ true
+unfolding levelSound
+level-ascends g w i e =
+    let es : Level = entriesOf (levelSlots g w i) in
+    let slots : List Slot = levelLaid g w i es in
+    let a : Bool = all (pageFormed g w i) (span (λ p. p) 0 (pagesOf g w i)) in
+    let c : Bool = eqb (pagesFor (length slots)) (pagesOf g w i) in
+    let d : Bool = equal (take (64 * room g i) (drop (levelStart g i) w)) (levelWords slots (room g i)) in
+    let f : Bool = withinCapacity g i (length es) in
+    and-right a (ascending es) (and-left (a && ascending es) c (and-left (a && ascending es && c) d (and-left (a && ascending es && c && d) f e)))
+
+all-span : (f : ℕ → Level) (i n : ℕ) → ((j : ℕ) → i ≤ j → j < i + n → ascending (f j) ≡ true) → all ascending (span f i n) ≡ true
+unfolding all span
+all-span f i zero h = refl
+all-span f i (suc n) h =
+    ap (λ (b : Bool). elim b [ true ↦ all ascending (span f (suc i) n) | false ↦ false ]) (h i (omega arith) (omega arith)) ∙
+    all-span f (suc i) n (λ j a b. h j (omega arith) (omega arith))
+
+pub tree-ascends : (g : Geometry) (w : List ℕ) → headRight g w ≡ true → ((i : ℕ) → 1 ≤ i → i < 1 + (g .levels - 1) → levelSound g w i ≡ true) →
+    levelsAscend (treeOf g w) ≡ true
+unfolding levelsAscend treeOf all
+tree-ascends g w h k =
+    ap (λ (b : Bool). elim b [ true ↦ all ascending (span (λ i. entriesOf (levelSlots g w i)) 1 (g .levels - 1)) | false ↦ false ]) (head-ascends g w h) ∙
+    all-span (λ i. entriesOf (levelSlots g w i)) 1 (g .levels - 1) (λ j a b. level-ascends g w j (k j a b))
+
+-- A sound store is ready for the calls of this crate's users.
+pub levels-sound : (g : Geometry) (w : List ℕ) (n i : ℕ) → levelsFault g w i n ≡ sound → (j : ℕ) → i ≤ j → j < i + n → levelSound g w j ≡ true
+unfolding levelsFault
+levels-sound g w zero i e j a b = absurd (omega arith)
+levels-sound g w (suc n) i e j a b = picked (levelSound g w i) refl e (λ r h. levels-sound g w n (suc i) r j h (omega arith))
+  where
+    there : (c : Bool) → eqb i j ≡ c → levelSound g w i ≡ true → (suc i ≤ j → levelSound g w j ≡ true) → levelSound g w j ≡ true
+    there true x q later = subst (λ (k : ℕ). levelSound g w k ≡ true) (eqb-true i j x) q
+    there false x q later =
+        let d : ¬ (i ≡ j) = eqb-false i j x in
+        later (omega arith)
+
+    picked : (b : Bool) → levelSound g w i ≡ b → elim b [ true ↦ levelsFault g w (suc i) n | false ↦ faultAt i ] ≡ sound →
+        (levelsFault g w (suc i) n ≡ sound → suc i ≤ j → levelSound g w j ≡ true) → levelSound g w j ≡ true
+    picked true q r ih = there (eqb i j) refl q (ih r)
+    picked false q r ih = let z : _≡_ {A = ℕ} 0 1 = cc in absurd (omega arith)
+
+-- Where nothing is found at all, the first finds nothing.
+none-first : (first later : Fault) → else first later ≡ sound → first ≡ sound
+unfolding else
+none-first sound later e = refl
+none-first (faultAt i) later e = e
+
+pub sound-ready : (g : Geometry) (w : List ℕ) → fault g w ≡ sound → PagesWithin g w × (levelsAscend (treeOf g w) ≡ true)
+unfolding fault headSound
+sound-ready g w e = picked (directoryRight g w && headSound g w) refl e
+  where
+    slots : List Slot
+    slots = weave (entriesOf (headSlots g w)) (fences (firstAt g w 1) (pagesOf g w 1))
+
+    picked : (b : Bool) → (directoryRight g w && headSound g w) ≡ b → elim b [ true ↦ else (levelsFault g w 1 (g .levels - 1)) (acrossFault g w) | false ↦ faultAt 0 ] ≡ sound →
+        PagesWithin g w × (levelsAscend (treeOf g w) ≡ true)
+    picked true q r =
+        let a : Bool = eqb (length slots) (getD w headCountWord 0) in
+        let c : Bool = equal (take (3 * headRoom g) (drop headStart w)) (runWords slots (headRoom g)) in
+        let head : headSound g w ≡ true = and-right (directoryRight g w) (headSound g w) q in (
+          pages-within g w (and-left (directoryRight g w) (headSound g w) q),
+          tree-ascends g w (and-left (headRight g w) a (and-left (headRight g w && a) c head)) (levels-sound g w (g .levels - 1) 1 (none-first (levelsFault g w 1 (g .levels - 1)) (acrossFault g w) r)),
+        )
+    picked false q r = let z : _≡_ {A = ℕ} 0 1 = cc in absurd (omega arith)

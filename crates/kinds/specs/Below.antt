@@ -1,0 +1,74 @@
+-- The runs below the top one of four, and the levels of a tree one by one. Assumes nothing.
+use Prim.Native.Nat.{ℕ, _+_}
+use native.Mathlib.Omega.{arith}
+use mathlib.Core.Path.{_≡_, refl, ap, _∙_}
+use mathlib.Core.Bool.{Bool, true, false, _&&_}
+use mathlib.Core.List.{List, _∷_}
+use lib.Dec.{eqb}
+use Rattle.laws.specs.Lists.{span, concat, all}
+use Rattle.geometry.specs.declared.Geometry.{Geometry}
+use Rattle.geometry.specs.Geometry.{InRange}
+use Rattle.rules.specs.Finding.{find, held}
+use Rattle.rules.specs.Sound.{entriesOf, treeOf, alternating, countKind, liveRight, ascending}
+use Rattle.entries.specs.declared.Run.{Run}
+use Rattle.entries.specs.declared.Runs.{Runs}
+use Rattle.entries.specs.Run.{entriesIn}
+use Rattle.entries.specs.Levels.{AllInside, runsOf, treeIn, by-levels}
+use Rattle.entries.specs.Ascending.{levelsAscend, chain-first}
+use Rattle.kinds.specs.declared.Tally.{Tally}
+use Rattle.kinds.specs.Tally.{treeTally}
+use Rattle.kinds.specs.Standing.{rightOver, standsOver, topStands}
+
+-- A run of no pages, and the runs below the top one.
+abbrev pub noRun : Run
+noRun = record { start = 0; pages = 0; most = 0 }
+
+unfoldable pub belowOf : Runs → Runs
+belowOf rs = record { head = rs .first; first = rs .second; second = rs .third; third = noRun }
+
+pub below-inside : (rs : Runs) (n : ℕ) → AllInside rs n → AllInside (belowOf rs) n
+unfolding belowOf
+below-inside rs n i = record { head = i .first; first = i .second; second = i .third; third = record { ends = omega arith; few-pages = omega arith; few-slots = omega arith } }
+
+pub below-ascends : (w : List ℕ) (rs : Runs) → levelsAscend (treeIn w rs) ≡ true → levelsAscend (treeIn w (belowOf rs)) ≡ true
+unfolding belowOf levelsAscend treeIn all ascending entriesIn span concat entriesOf
+below-ascends w rs a = chain-first (ascending (entriesIn w (rs .head))) (levelsAscend (treeIn w (belowOf rs))) a .1
+
+pub top-ascends : (w : List ℕ) (rs : Runs) → levelsAscend (treeIn w rs) ≡ true → levelsAscend (entriesIn w (rs .head) ∷ treeIn w (belowOf rs)) ≡ true
+unfolding belowOf levelsAscend treeIn all ascending entriesIn span concat entriesOf
+top-ascends w rs a = a
+
+pub top-stands : (w : List ℕ) (rs : Runs) → standsOver (entriesIn w (rs .head)) (treeIn w (belowOf rs)) ≡ topStands (treeIn w rs)
+unfolding belowOf topStands standsOver rightOver treeIn entriesIn span concat entriesOf held find
+top-stands w rs = refl
+
+-- Every level of four stands right over those below it.
+and-true : (b : Bool) → (b && true) ≡ b
+and-true true = refl
+and-true false = refl
+
+pub alternating-four : (w : List ℕ) (rs : Runs) →
+    alternating (treeIn w rs) ≡
+    (topStands (treeIn w rs) && (topStands (treeIn w (belowOf rs)) && (topStands (treeIn w (belowOf (belowOf rs))) && topStands (treeIn w (belowOf (belowOf (belowOf rs)))))))
+unfolding belowOf alternating topStands standsOver rightOver treeIn entriesIn span concat entriesOf held find
+alternating-four w rs =
+    ap (λ (b : Bool). topStands (treeIn w rs) && (topStands (treeIn w (belowOf rs)) && (topStands (treeIn w (belowOf (belowOf rs))) && b)))
+    (and-true (topStands (treeIn w (belowOf (belowOf (belowOf rs))))))
+
+-- The tree that the words hold is judged as the four runs are.
+pub runs-alternate : (g : Geometry) (w : List ℕ) → InRange g → alternating (treeIn w (runsOf g w)) ≡ alternating (treeOf g w)
+unfolding alternating held find all
+runs-alternate g w fit = by-levels g w fit (λ t u. alternating u ≡ alternating t) (λ a b. refl) (λ a b c. refl) (λ a b c d. refl)
+
+pub runs-count : (g : Geometry) (w : List ℕ) → InRange g → (b : Bool) → countKind b (treeIn w (runsOf g w)) ≡ countKind b (treeOf g w)
+unfolding countKind concat
+runs-count g w fit b = by-levels g w fit (λ t u. countKind b u ≡ countKind b t) (λ x y. refl) (λ x y z. refl) (λ x y z v. refl)
+
+-- What was told of the four runs is so of the tree that the words hold.
+module _ (g : Geometry) (w : List ℕ) (fit : InRange g) (rs : Runs) (read : rs ≡ runsOf g w) where
+  pub alternates-told : (r : Bool) → r ≡ alternating (treeIn w rs) → r ≡ alternating (treeOf g w)
+  alternates-told r e = e ∙ rw read (runs-alternate g w fit)
+
+  pub live-told : (live : ℕ) (n : Tally) (r : Bool) → n ≡ treeTally (treeIn w rs) → r ≡ eqb (live + n .filters) (n .normal) → r ≡ liveRight live (treeOf g w)
+  unfolding liveRight
+  live-told live n r t e = e ∙ rw (t, read, runs-count g w fit true, runs-count g w fit false)

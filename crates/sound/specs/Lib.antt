@@ -1,0 +1,2 @@
+-- The whole-store test, level by level.
+pub mod Levels
