@@ -2,3 +2,5 @@
 pub mod Reply
 pub mod Opening
 pub mod Ask
+pub mod Check
+pub mod List

@@ -1,5 +1,5 @@
 -- The paper's section "Numbered replies, in order of test". Assumes nothing.
-use Prim.Native.Nat.{ℕ}
+use Prim.Native.Nat.{ℕ, zero, suc}
 use mathlib.Core.Bool.{Bool, true, false}
 use mathlib.Core.List.{List, [], _∷_}
 
@@ -20,3 +20,8 @@ test b n = record { passes = b; number = n }
 unfoldable pub firstFailing : List Test → ℕ
 firstFailing [] = 0
 firstFailing (t ∷ ts) = elim (t .passes) [ true ↦ firstFailing ts | false ↦ t .number ]
+
+-- What a call comes to: the refusal of the tests that come first, with zeros for values, or what follows them.
+abbrev pub unless : ℕ → List ℕ → Reply → Reply
+unless zero zeros reply = reply
+unless (suc n) zeros reply = record { number = suc n; values = zeros }

@@ -5,9 +5,13 @@ ghost use lib.ListN.{length};
 ghost use Rattle.rules.specs.Sound.{geometryOf};
 ghost use Rattle.index.specs.Opening.{Opens};
 ghost use Rattle.index.specs.Ask.{askReply, askOf};
+ghost use Rattle.index.specs.Check.{checkReply, checkOf};
+ghost use Rattle.index.specs.List.{listReply, listOf};
 use geometry::Geometry;
 use geometry::Plan;
+use listing::list_pairs;
 use slot::Pair;
+use sound::Whole;
 use walk::Walked;
 
 // What ask answers: held or not with the deciding level, or the reply's number in words.
@@ -35,6 +39,65 @@ pub fn ask(store: &[u32], pair: Pair) -> Asked
     match walk::walk_down(store, geometry, plan, pair) {
         Walked::Found(held, level) => Asked::Answer(held, level),
         Walked::Fault(level) => Asked::Fault(level),
+    }
+}
+
+// What check answers: that the store is sound, or the reply's number in words.
+pub enum Checked {
+    Done,
+    Range,
+    Length,
+    Fault(u32),
+}
+
+// Is this store sound?
+pub fn check(store: &[u32]) -> Checked
+    ensures { λ r. ⌜ checkReply r ≡ checkOf (now (store .entry)) ⌝ }
+{
+    let opened = open_store(store);
+    let reply = opened.reply;
+    if reply == 1 {
+        return Checked::Range;
+    }
+    if reply != 0 {
+        return Checked::Length;
+    }
+    let geometry = opened.geometry;
+    let plan = opened.plan;
+    match sound::whole_fault(store, geometry, plan) {
+        Whole::Sound => Checked::Done,
+        Whole::Fault(level) => Checked::Fault(level),
+    }
+}
+
+// What list answers: the pairs written and the mark, or the reply's number in words.
+pub enum Shown {
+    Pairs(u32, u32),
+    Range,
+    Length,
+    Fault(u32),
+}
+
+// Which pairs from a first to a second does this store hold? They are written into the list, as many as it has room for.
+pub fn list(store: &[u32], first: Pair, second: Pair, out: &mut [u32]) -> Shown
+    ensures { λ r. ⌜ listReply r (now (out .exit)) ≡ listOf (now (store .entry)) first second (now (out .entry)) ⌝ }
+{
+    let opened = open_store(store);
+    let reply = opened.reply;
+    if reply == 1 {
+        return Shown::Range;
+    }
+    if reply != 0 {
+        return Shown::Length;
+    }
+    let geometry = opened.geometry;
+    let plan = opened.plan;
+    match sound::whole_fault(store, geometry, plan) {
+        Whole::Fault(level) => Shown::Fault(level),
+        Whole::Sound => {
+            let listed = list_pairs(store, geometry, plan, first, second, out);
+            Shown::Pairs(listed.pairs, listed.mark)
+        }
     }
 }
 

@@ -91,9 +91,10 @@ module _ (g : Geometry) (w : List ℕ) where
   -- Levels that are sound by themselves are ready for the test across them.
   pub levels-ready : directoryRight g w ≡ true → headSound g w ≡ true → levelsFault g w 1 (bottom g) ≡ sound →
       PagesWithin g w × (levelsAscend (treeOf g w) ≡ true)
-  levels-ready d e n =
-      (pages-within g w d,
-        tree-ascends g w (and-left (headRight g w) _ (sym (head-sound-parts g w) ∙ e)) (levels-sound g w (bottom g) 1 n))
+  levels-ready d e n = (
+    pages-within g w d,
+    tree-ascends g w (and-left (headRight g w) _ (sym (head-sound-parts g w) ∙ e)) (levels-sound g w (bottom g) 1 n),
+  )
 
 pub across-right : (g : Geometry) (w : List ℕ) → (alternating (treeOf g w) && liveRight (getD w liveWord 0) (treeOf g w)) ≡ true → sound ≡ acrossFault g w
 unfolding acrossFault

@@ -13,12 +13,21 @@ ghost use Rattle.written.specs.Written.{levelRun, levelWritten};
 ghost use Rattle.entries.specs.Levels.{PagesWithin};
 ghost use Rattle.entries.specs.Ascending.{levelsAscend};
 ghost use Rattle.sound.specs.Levels.{capacityHolds, wholeTold};
-use geometry::{Geometry, HEAD_COUNT, HEAD_START, PAGE_COUNTS, Plan};
+use geometry::Geometry;
+use geometry::HEAD_COUNT;
+use geometry::HEAD_START;
+use geometry::PAGE_COUNTS;
+use geometry::Plan;
 use kinds::kinds_right;
 use laws::both;
 use slot::least_pair;
-use walk::{directory_right, head_scan, page_scan, pages_below};
-use written::{Verdict, head_written, level_written};
+use walk::directory_right;
+use walk::head_scan;
+use walk::page_scan;
+use walk::pages_below;
+use written::Verdict;
+use written::head_written;
+use written::level_written;
 
 // What the whole-store test finds: nothing, or the level that reply 6 tells.
 pub enum Whole {
@@ -111,7 +120,15 @@ fn level_verdict(store: &[u32], g: Geometry, plan: Plan, level: usize) -> Verdic
     let below_start = start + 64 * room as usize;
     let pages = store[PAGE_COUNTS + level];
     let below = pages_below(store, g, level);
-    level_written(store, start, room, pages, level != levels - 1, below_start, below)
+    level_written(
+        store,
+        start,
+        room,
+        pages,
+        level != levels - 1,
+        below_start,
+        below,
+    )
 }
 
 // Whether a level may hold this many entries: fewer than its capacity above the bottom, at most M in the bottom.

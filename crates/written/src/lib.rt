@@ -10,9 +10,21 @@ ghost use Rattle.written.specs.Written.{levelRun, levelWritten, headWrit
 ghost use Rattle.written.specs.Stream.{sameSlot, entryOf, passed as Spec·passed, entryNext, fencedAt};
 ghost use Rattle.written.specs.Row.{RowInside, rowPlace, rowSlot, rowSlots, firstBelow, nextEntry, nothingLeft, wantedAt, isWanted, rises as Spec·rises, rowWritten};
 ghost use Rattle.written.specs.Tested.{filled, lastRight, unused as Spec·unused};
-use geometry::{ERASED, FIRST_SLOT, PAGE_SLOTS, PAGE_WORDS, SLOT_WORDS};
-use page::{is_fence, is_normal};
-use slot::{Kind, Pair, Pid, Slot, comes_before, kind_number, least_pair, read_slot};
+use geometry::ERASED;
+use geometry::FIRST_SLOT;
+use geometry::PAGE_SLOTS;
+use geometry::PAGE_WORDS;
+use geometry::SLOT_WORDS;
+use page::is_fence;
+use page::is_normal;
+use slot::Kind;
+use slot::Pair;
+use slot::Pid;
+use slot::Slot;
+use slot::comes_before;
+use slot::kind_number;
+use slot::least_pair;
+use slot::read_slot;
 
 // A row of slots: the head's, or those of a level's pages in order. It stands from start on, cut into pages of 21 or not; above the bottom
 // an entry that is first in a page has an internal fence before it. Its fences name the pages of the level below.

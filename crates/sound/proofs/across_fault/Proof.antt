@@ -1,24 +1,17 @@
+-- `across_fault` tests kinds, alternation and live across levels. Assumes nothing.
 use mathlib.Core.Path.{sym, _∙_}
 use Rattle.sound.specs.Levels.{across-right, across-wrong}
-use native.Mathlib.Omega.{arith}
-use borrow.Author.Needs.{needs}
 use Rattle.sound.proofs.across_fault.Statement.{statement}
 use Rattle.sound.proofs.across_fault.Tie as tie
-use Rattle.sound.proofs.across_fault.Reads as reads
-use Rattle.sound.proofs.across_fault.Lts as lts
-use Rattle.kinds.proofs.kinds_right.Reads as kinds-right-reads
 
--- src/lib.rt:53:8
 kinds-right-requires : tie.Need-kinds-right-requires
 kinds-right-requires c κs =
     let l = c .before .pre .0 in
     (l .in-range, (l .planned, (l .exact, (c .before .pre .1 .0, c .before .pre .1 .1))))
 
--- src/lib.rt:54:9
 returns : tie.Need-returns
 returns c = across-right (c .before .before .before .args .g) (c .before .before .before .args .store .now) (sym (c .before .kinds-right .ensures) ∙ c .if1 .taken)
 
--- src/lib.rt:47:1
 returns-2 : tie.Need-returns-2
 returns-2 c = across-wrong (c .before .before .before .args .g) (c .before .before .before .args .store .now) (sym (c .before .kinds-right .ensures) ∙ c .if1 .left)
 

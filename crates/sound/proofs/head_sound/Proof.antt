@@ -1,5 +1,6 @@
+-- `head_sound` tests the head: what ask tests of it, and that it is its writing. Assumes nothing.
 use Prim.Native.Nat.{_<_}
-use mathlib.Core.Path.{_≡_, sym, ap, _∙_}
+use mathlib.Core.Path.{ap, _∙_}
 use Rattle.laws.specs.Tests.{told-no, told-past}
 use Rattle.page.specs.declared.Scan.{Scan}
 use Rattle.geometry.specs.Lent.{head-room-at, starts-at}
@@ -10,21 +11,13 @@ use native.Mathlib.Omega.{arith}
 use borrow.Author.Needs.{needs}
 use Rattle.sound.proofs.head_sound.Statement.{statement}
 use Rattle.sound.proofs.head_sound.Tie as tie
-use Rattle.sound.proofs.head_sound.Reads as reads
-use Rattle.sound.proofs.head_sound.Lts as lts
-use Rattle.slot.proofs.least_pair.Reads as least-pair-reads
-use Rattle.walk.proofs.head_scan.Reads as head-scan-reads
-use Rattle.written.proofs.head_written.Reads as head-written-reads
 
--- src/lib.rt:32:42
 least-pair-requires : tie.Need-least-pair-requires
 least-pair-requires c κs = search needs
 
--- src/lib.rt:32:9
 head-scan-requires : tie.Need-head-scan-requires
 head-scan-requires c κs = search needs
 
--- src/lib.rt:34:9
 returns : tie.Need-returns
 returns c =
     let a = c .before .before .before .before .before .args in
@@ -32,23 +25,18 @@ returns c =
     let mark = ap (λ (s : Scan). s .formed) (c .before .before .head-scan .ensures) ∙ head-mark (a .g) (a .store .now) _ two in
     rw (head-sound-parts (a .g) (a .store .now), told-no _ _ mark (c .if1 .taken))
 
--- src/lib.rt:36:17
 element-copy-out-start : tie.Need-element-copy-out-start
 element-copy-out-start c = search needs
 
--- src/lib.rt:36:17
 cast-start : tie.Need-cast-start
 cast-start c = search needs
 
--- src/lib.rt:41:9
 shared-slice-read-head-written : tie.Need-shared-slice-read-head-written
 shared-slice-read-head-written c = search needs
 
--- src/lib.rt:43:9
 shared-slice-read-head-written-2 : tie.Need-shared-slice-read-head-written-2
 shared-slice-read-head-written-2 c = search needs
 
--- src/lib.rt:37:9
 head-written-requires : tie.Need-head-written-requires
 head-written-requires c κs =
     let a = c .before .before .before .before .before .before .before .before .args in
@@ -58,7 +46,6 @@ head-written-requires c κs =
     rw (head-room-at (a .g) (a .t3) (a .store .now) l, starts-at (a .g) (a .t3) (a .store .now) l 1 (omega arith) (omega arith), ← pages-of (a .g) (a .store .now) 1 two)
     (head-places (a .g) (a .store .now) (l .in-range) (c .before .before .before .before .before .before .before .before .pre .1) (l .exact) (told-past _ _ mark (c .before .before .before .if1 .left)))
 
--- src/lib.rt:27:1
 returns-2 : tie.Need-returns-2
 returns-2 c =
     let a = c .before .before .before .before .before .before .before .before .before .args in

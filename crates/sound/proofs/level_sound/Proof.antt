@@ -1,40 +1,28 @@
+-- `level_sound` tests a level: page form, its writing and its capacity. Assumes nothing.
 use mathlib.Core.Path.{sym, ap, _∙_}
 use mathlib.Core.Bool.{Bool, _&&_}
 use Rattle.laws.specs.Tests.{told-no, told-past}
 use Rattle.written.specs.Parts.{level-sound-parts, level-sound-told}
 use Rattle.sound.specs.Levels.{capacity-holds}
-use native.Mathlib.Omega.{arith}
 use borrow.Author.Needs.{needs}
 use Rattle.sound.proofs.level_sound.Statement.{statement}
 use Rattle.sound.proofs.level_sound.Tie as tie
-use Rattle.sound.proofs.level_sound.Reads as reads
-use Rattle.sound.proofs.level_sound.Lts as lts
-use Rattle.laws.proofs.both.Reads as both-reads
-use Rattle.sound.proofs.level_verdict.Reads as level-verdict-reads
-use Rattle.sound.proofs.pages_formed.Reads as pages-formed-reads
-use Rattle.sound.proofs.within_capacity.Reads as within-capacity-reads
 
--- src/lib.rt:105:9
 pages-formed-requires : tie.Need-pages-formed-requires
 pages-formed-requires c κs = search needs
 
--- src/lib.rt:106:9
 returns : tie.Need-returns
 returns c = rw (level-sound-parts (c .before .before .before .args .g) (c .before .before .before .args .store .now) (c .before .before .before .args .level), told-no _ _ (c .before .pages-formed .ensures) (c .if1 .taken))
 
--- src/lib.rt:108:9
 level-verdict-requires : tie.Need-level-verdict-requires
 level-verdict-requires c κs = search needs
 
--- src/lib.rt:109:22
 within-capacity-requires : tie.Need-within-capacity-requires
 within-capacity-requires c κs = search needs
 
--- src/lib.rt:109:5
 both-requires : tie.Need-both-requires
 both-requires c κs = search needs
 
--- src/lib.rt:99:1
 returns-2 : tie.Need-returns-2
 returns-2 c =
     let a = c .before .before .before .before .before .before .args in

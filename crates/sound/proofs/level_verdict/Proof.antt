@@ -1,6 +1,6 @@
-use Prim.Native.Nat.{suc, _≤_}
+-- `level_verdict` tells whether a level is its writing, with the plan's numbers for the level's places. Assumes nothing.
+use Prim.Native.Nat.{_≤_}
 use native.Mathlib.Numerals.{add-one}
-use mathlib.Core.Path.{_≡_, sym, ap, _∙_}
 use Rattle.geometry.specs.Lent.{rooms-at, starts-at, room-at}
 use Rattle.walk.specs.Passes.{pages-of}
 use Rattle.written.specs.Inside.{level-places}
@@ -8,74 +8,55 @@ use native.Mathlib.Omega.{arith}
 use borrow.Author.Needs.{needs}
 use Rattle.sound.proofs.level_verdict.Statement.{statement}
 use Rattle.sound.proofs.level_verdict.Tie as tie
-use Rattle.sound.proofs.level_verdict.Reads as reads
-use Rattle.sound.proofs.level_verdict.Lts as lts
-use Rattle.walk.proofs.pages_below.Reads as pages-below-reads
-use Rattle.written.proofs.level_written.Reads as level-written-reads
 
--- src/lib.rt:75:17
 mul-start : tie.Need-mul-start
 mul-start c = search needs
 
--- src/lib.rt:75:17
 element-copy-out-start : tie.Need-element-copy-out-start
 element-copy-out-start c = search needs
 
--- src/lib.rt:75:17
 cast-start : tie.Need-cast-start
 cast-start c = search needs
 
--- src/lib.rt:76:16
 mul-room : tie.Need-mul-room
 mul-room c = search needs
 
--- src/lib.rt:76:16
 element-copy-out-room : tie.Need-element-copy-out-room
 element-copy-out-room c = search needs
 
--- src/lib.rt:77:18
 cast-levels : tie.Need-cast-levels
 cast-levels c = search needs
 
--- src/lib.rt:78:36
 cast-below-start : tie.Need-cast-below-start
 cast-below-start c = search needs
 
--- src/lib.rt:78:31
 mul-below-start : tie.Need-mul-below-start
 mul-below-start c =
     let a = c .before .before .before .before .args in
     let h = c .before .before .before .before .pre .1 .1 in
     omega (arith, room-at (a .g) (a .t3) (a .store .now) (c .before .before .before .before .pre .0) (a .level) (h .0) (h .1) .1)
 
--- src/lib.rt:78:23
 add-below-start : tie.Need-add-below-start
 add-below-start c =
     let a = c .before .before .before .before .args in
     let h = c .before .before .before .before .pre .1 .1 in
     omega (arith, room-at (a .g) (a .t3) (a .store .now) (c .before .before .before .before .pre .0) (a .level) (h .0) (h .1) .1)
 
--- src/lib.rt:79:23
 add-pages : tie.Need-add-pages
 add-pages c = search needs
 
--- src/lib.rt:79:17
 mul-pages : tie.Need-mul-pages
 mul-pages c = search needs
 
--- src/lib.rt:79:17
 shared-slice-read-pages : tie.Need-shared-slice-read-pages
 shared-slice-read-pages c = search needs
 
--- src/lib.rt:80:9
 pages-below-requires : tie.Need-pages-below-requires
 pages-below-requires c κs = search needs
 
--- src/lib.rt:81:55
 sub-level-written : tie.Need-sub-level-written
 sub-level-written c = search needs
 
--- src/lib.rt:81:5
 level-written-requires : tie.Need-level-written-requires
 level-written-requires c κs =
     let a = c .before .before .before .before .before .before .args in
@@ -85,7 +66,6 @@ level-written-requires c κs =
     rw (room-at (a .g) (a .t3) (a .store .now) l (a .level) (h .0) (h .1) .0, starts-at (a .g) (a .t3) (a .store .now) l (a .level) (h .0) three, rooms-at (a .g) (a .t3) (a .store .now) l (a .level) three, c .pages-below .ensures, add-one (a .level), ← pages-of (a .g) (a .store .now) (a .level) (h .1))
     (level-places (a .g) (a .store .now) (l .in-range) (c .before .before .before .before .before .before .pre .1 .0) (l .exact) (a .level) (h .0) (h .1))
 
--- src/lib.rt:68:1
 returns : tie.Need-returns
 returns c =
     let a = c .before .before .before .before .before .before .before .args in

@@ -1,4 +1,5 @@
-use Prim.Native.Nat.{_≤_, _<_, _-_}
+-- `levels_fault` finds the first faulty level. The loop's invariant: the first fault from here is the first fault of all. Assumes nothing.
+use Prim.Native.Nat.{_≤_, _-_}
 use mathlib.Core.Path.{_≡_, refl, sym, _∙_}
 use Rattle.laws.specs.Tests.{told-no, told-past}
 use Rattle.geometry.specs.Geometry.{bottom}
@@ -8,9 +9,6 @@ use borrow.Author.Needs.{needs}
 use native.Mathlib.Omega.{arith}
 use Rattle.sound.proofs.levels_fault.Statement.{statement}
 use Rattle.sound.proofs.levels_fault.Tie as tie
-use Rattle.sound.proofs.levels_fault.Reads as reads
-use Rattle.sound.proofs.levels_fault.Lts as lts
-use Rattle.sound.proofs.level_sound.Reads as level-sound-reads
 
 abbrev Inv-loop : tie.InvT-loop
 Inv-loop store g plan levels level₀ level =
@@ -19,46 +17,39 @@ Inv-loop store g plan levels level₀ level =
 abbrev μ-loop : tie.MeasureT-loop
 μ-loop store g plan levels level₀ level = levels - level
 
--- src/lib.rt:151:18
 cast-levels : tie.Need-cast-levels Inv-loop μ-loop
 cast-levels c = search needs
 
--- src/lib.rt:153:5
 loop-holds : tie.Need-loop-holds Inv-loop μ-loop
 loop-holds c = (omega arith, refl, refl)
 
--- src/lib.rt:154:13
 level-sound-requires : tie.Need-level-sound-requires Inv-loop μ-loop
 level-sound-requires c κs =
     let i = c .before .loop .inv in
     (c .before .before .before .before .pre .0, (c .before .before .before .before .pre .1, (i .0, omega (arith, c .loop-test .taken, i .1))))
 
--- src/lib.rt:155:33
 cast-t8 : tie.Need-cast-t8 Inv-loop μ-loop
 cast-t8 c = search needs
 
--- src/lib.rt:155:13
 returns : tie.Need-returns Inv-loop μ-loop
 returns c =
     let a = c .before .before .before .before .before .before .args in
     sym (level-fails (a .g) (a .store .now) (c .before .before .before .loop .level) _ (c .before .before .loop-test .taken) (told-no _ _ (c .before .level-sound .ensures) (c .if1 .taken))) ∙ c .before .before .before .loop .inv .2
 
--- src/lib.rt:157:9
 add-level : tie.Need-add-level Inv-loop μ-loop
 add-level c = search needs
 
--- src/lib.rt:153:5
 loop-less : tie.Need-loop-less Inv-loop μ-loop
 loop-less c = search needs
 
--- src/lib.rt:153:5
 loop-again : tie.Need-loop-again Inv-loop μ-loop
 loop-again c =
-    let a = c .before .before .before .before .before .before .args in
-    (omega arith, c .before .before .before .loop .inv .1,
-      sym (level-passes (a .g) (a .store .now) (c .before .before .before .loop .level) _ (c .before .before .loop-test .taken) (told-past _ _ (c .before .level-sound .ensures) (c .if1 .left))) ∙ c .before .before .before .loop .inv .2)
+    let a = c .before .before .before .before .before .before .args in (
+      omega arith,
+      c .before .before .before .loop .inv .1,
+      sym (level-passes (a .g) (a .store .now) (c .before .before .before .loop .level) _ (c .before .before .loop-test .taken) (told-past _ _ (c .before .level-sound .ensures) (c .if1 .left))) ∙ c .before .before .before .loop .inv .2,
+    )
 
--- src/lib.rt:146:1
 returns-2 : tie.Need-returns-2 Inv-loop μ-loop
 returns-2 c =
     let a = c .before .before .before .before .args in

@@ -1,3 +1,4 @@
+-- `pages_formed` tests every page of a level. The loop's invariant: all pages from here on are formed exactly if all are. Assumes nothing.
 use Rattle.geometry.specs.Bounds.{room-small}
 use Prim.Native.Nat.{_≤_, _-_}
 use native.Mathlib.Nat.{sub-zero}
@@ -5,7 +6,6 @@ use mathlib.Core.Path.{_≡_, sym, ap, _∙_}
 use Rattle.laws.specs.Tests.{told-no, told-past}
 use Rattle.laws.specs.Lists.{span, all}
 use Rattle.page.specs.declared.Scan.{Scan}
-use Rattle.slot.specs.Pair.{least}
 use Rattle.rules.specs.Sound.{pagesOf, pageFormed}
 use Rattle.walk.specs.Passes.{pages-of, page-mark}
 use Rattle.walk.specs.Walk.{pages-in-room}
@@ -14,10 +14,6 @@ use borrow.Author.Needs.{needs}
 use native.Mathlib.Omega.{arith}
 use Rattle.sound.proofs.pages_formed.Statement.{statement}
 use Rattle.sound.proofs.pages_formed.Tie as tie
-use Rattle.sound.proofs.pages_formed.Reads as reads
-use Rattle.sound.proofs.pages_formed.Lts as lts
-use Rattle.slot.proofs.least_pair.Reads as least-pair-reads
-use Rattle.walk.proofs.page_scan.Reads as page-scan-reads
 
 abbrev Inv-loop : tie.InvT-loop
 Inv-loop store g plan level pages p₀ p =
@@ -27,63 +23,54 @@ Inv-loop store g plan level pages p₀ p =
 abbrev μ-loop : tie.MeasureT-loop
 μ-loop store g plan level pages p₀ p = pages - p
 
--- src/lib.rt:55:23
 add-pages : tie.Need-add-pages Inv-loop μ-loop
 add-pages c = search needs
 
--- src/lib.rt:55:17
 mul-pages : tie.Need-mul-pages Inv-loop μ-loop
 mul-pages c = search needs
 
--- src/lib.rt:55:17
 shared-slice-read-pages : tie.Need-shared-slice-read-pages Inv-loop μ-loop
 shared-slice-read-pages c = search needs
 
--- src/lib.rt:57:5
 loop-holds : tie.Need-loop-holds Inv-loop μ-loop
 loop-holds c =
     let a = c .before .before .args in
     let e = pages-of (a .g) (a .store .now) (a .level) (c .before .before .pre .1 .1 .1) in
     (omega arith, sym e, rw (e, sub-zero))
 
--- src/lib.rt:58:46
 least-pair-requires : tie.Need-least-pair-requires Inv-loop μ-loop
 least-pair-requires c κs = search needs
 
--- src/lib.rt:58:13
 page-scan-requires : tie.Need-page-scan-requires Inv-loop μ-loop
 page-scan-requires c κs =
     let a = c .before .before .before .before .before .args in
     let h = c .before .before .before .before .before .pre .1 .1 in
     (c .before .before .before .before .before .pre .0, (h .0, h .1, omega (arith, c .before .loop-test .taken, c .before .before .loop .inv .1, pages-in-room (a .g) (a .store .now) (a .level) (c .before .before .before .before .before .pre .0 .in-range .levels-most) (c .before .before .before .before .before .pre .1 .0) (h .0) (h .1))))
 
--- src/lib.rt:60:13
 returns : tie.Need-returns Inv-loop μ-loop
 returns c =
     let a = c .before .before .before .before .before .before .before .before .args in
     let mark = ap (λ (s : Scan). s .formed) (c .before .before .page-scan .ensures) ∙ page-mark (a .g) (a .store .now) _ (a .level) (c .before .before .before .before .before .loop .p) (c .before .before .before .before .before .before .before .before .pre .1 .1 .1) in
     sym (page-fails (pageFormed (a .g) (a .store .now) (a .level)) (c .before .before .before .before .before .loop .p) _ (c .before .before .before .before .loop-test .taken) (told-no _ _ mark (c .if1 .taken))) ∙ c .before .before .before .before .before .loop .inv .2
 
--- src/lib.rt:62:9
 add-p : tie.Need-add-p Inv-loop μ-loop
 add-p c =
     let a = c .before .before .before .before .before .before .before .before .args in
     let h = c .before .before .before .before .before .before .before .before .pre .1 .1 in
     omega (arith, c .before .before .before .before .loop-test .taken, c .before .before .before .before .before .loop .inv .1, pages-in-room (a .g) (a .store .now) (a .level) (c .before .before .before .before .before .before .before .before .pre .0 .in-range .levels-most) (c .before .before .before .before .before .before .before .before .pre .1 .0) (h .0) (h .1), room-small (a .g) (c .before .before .before .before .before .before .before .before .pre .0 .in-range) (a .level))
 
--- src/lib.rt:57:5
 loop-less : tie.Need-loop-less Inv-loop μ-loop
 loop-less c = search needs
 
--- src/lib.rt:57:5
 loop-again : tie.Need-loop-again Inv-loop μ-loop
 loop-again c =
     let a = c .before .before .before .before .before .before .before .before .args in
-    let mark = ap (λ (s : Scan). s .formed) (c .before .before .page-scan .ensures) ∙ page-mark (a .g) (a .store .now) _ (a .level) (c .before .before .before .before .before .loop .p) (c .before .before .before .before .before .before .before .before .pre .1 .1 .1) in
-    (omega arith, c .before .before .before .before .before .loop .inv .1,
-      sym (page-passes (pageFormed (a .g) (a .store .now) (a .level)) (c .before .before .before .before .before .loop .p) _ (c .before .before .before .before .loop-test .taken) (told-past _ _ mark (c .if1 .left))) ∙ c .before .before .before .before .before .loop .inv .2)
+    let mark = ap (λ (s : Scan). s .formed) (c .before .before .page-scan .ensures) ∙ page-mark (a .g) (a .store .now) _ (a .level) (c .before .before .before .before .before .loop .p) (c .before .before .before .before .before .before .before .before .pre .1 .1 .1) in (
+      omega arith,
+      c .before .before .before .before .before .loop .inv .1,
+      sym (page-passes (pageFormed (a .g) (a .store .now) (a .level)) (c .before .before .before .before .before .loop .p) _ (c .before .before .before .before .loop-test .taken) (told-past _ _ mark (c .if1 .left))) ∙ c .before .before .before .before .before .loop .inv .2,
+    )
 
--- src/lib.rt:49:1
 returns-2 : tie.Need-returns-2 Inv-loop μ-loop
 returns-2 c =
     let a = c .before .before .before .before .args in
