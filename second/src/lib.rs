@@ -17,6 +17,7 @@ pub mod sound;
 pub mod walk;
 
 pub mod calls;
+pub mod script;
 pub mod sheet;
 
 pub mod call;

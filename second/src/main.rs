@@ -8,6 +8,7 @@ use second::generate::sequence;
 use second::geometry::Geometry;
 use second::random::Random;
 use second::replay::Replay;
+use second::script::Script;
 use second::variant::Variant;
 use second::vectors::{self, Case, Tally};
 use second::{cases, sheet};
@@ -19,12 +20,16 @@ const USAGE: &str = "usage:
   second sheet < INPUT
   second sequences [--seed S] [--calls N] H,k,l...
   second damaged [--seed S] [--cases N]
+  second script [--seed S] [--cases N] FOLDER FILE...
   second replay [--build NAME] [--seed S] [--calls N] [--every E] [--damage D] H,k,l...";
 
 /// Every option.
 const OPTIONS: [&str; 6] = [
     "--build", "--seed", "--calls", "--cases", "--every", "--damage",
 ];
+
+/// The longest store that a script takes over, which keeps a script small.
+const SCRIPT_WORDS: usize = 260;
 
 /// The differences that `vectors` shows at most.
 const SHOWN: usize = 5;
@@ -45,6 +50,7 @@ fn main() -> ExitCode {
         "sheet" => run_sheet(),
         "sequences" => print_sequences(&line),
         "damaged" => print_damaged(&line),
+        "script" => write_script(&line),
         "replay" => print_replay(&line),
         _ => Err(USAGE.to_string()),
     });
@@ -119,6 +125,38 @@ fn print_damaged(line: &Line) -> Result<bool, String> {
     for number in 0..line.option("--cases", 60)? {
         print_case(&damaged(&mut random, number))?;
     }
+    Ok(true)
+}
+
+/// Writes a replay script of the files' cases and of damaged ones, as a folder's stdin, and the
+/// lines that it must print, as its stdout.
+fn write_script(line: &Line) -> Result<bool, String> {
+    let (folder, files) = line.rest.split_first().ok_or(USAGE)?;
+    let mut cases = Vec::new();
+    for file in files {
+        let text = std::fs::read_to_string(file).map_err(|e| format!("{file}: {e}"))?;
+        cases.extend(vectors::cases(&text));
+    }
+    let mut random = Random::new(line.option("--seed", 1)?);
+    for number in 0..line.option("--cases", 60)? {
+        cases.push(damaged(&mut random, number));
+    }
+    let mut script = Script::default();
+    for case in cases.iter().filter(|case| case.store.len() <= SCRIPT_WORDS) {
+        script.add(case);
+    }
+    let bytes: Vec<u8> = script
+        .numbers
+        .iter()
+        .flat_map(|n| n.to_le_bytes())
+        .collect();
+    let lines: String = script.lines.iter().map(|l| format!("{l}\n")).collect();
+    let write = |name: &str, bytes: &[u8]| {
+        let path = format!("{folder}/{name}");
+        std::fs::write(&path, bytes).map_err(|e| format!("{path}: {e}"))
+    };
+    write("stdin", &bytes)?;
+    write("stdout", lines.as_bytes())?;
     Ok(true)
 }
 

@@ -38,6 +38,13 @@ pub fn run(variant: Variant, text: &str, tally: &mut Tally) {
     }
 }
 
+/// The cases of a vector file's text, answers left aside.
+pub fn cases(text: &str) -> Vec<Case> {
+    let lines: Vec<&str> = text.lines().collect();
+    let blocks = lines.chunk_by(|_, next| !next.starts_with("case "));
+    blocks.filter_map(parse).collect()
+}
+
 /// Runs the case of these lines, the first of which has this number in its file.
 fn run_case(variant: Variant, lines: &[&str], number: usize, tally: &mut Tally) {
     tally.cases += 1;
