@@ -99,3 +99,12 @@ pub head-reach : (g : Geometry) (w : List ℕ) (asked : Pair) →
     (headScanned g w asked) .reach ≡ length (passing (λ s. not (before asked (s .pair))) (headSlots g w))
 unfolding headScanned marked
 head-reach g w asked = scan-reach asked false (getD w 4 0) (headSlots g w)
+
+-- A pass with what its mark tells.
+pub page-told : (g : Geometry) (w : List ℕ) (asked : Pair) (i p : ℕ) → i < g .levels → {c : Scan} → c ≡ pageScanned g w asked i p →
+    (c ≡ pageScanned g w asked i p) × (c .formed ≡ pageFormed g w i p)
+page-told g w asked i p h e = (e, ap (λ (s : Scan). s .formed) e ∙ page-mark g w asked i p h)
+
+pub head-told : (g : Geometry) (w : List ℕ) (asked : Pair) → 1 < g .levels → {c : Scan} → c ≡ headScanned g w asked →
+    (c ≡ headScanned g w asked) × (c .formed ≡ headRight g w)
+head-told g w asked h e = (e, ap (λ (s : Scan). s .formed) e ∙ head-mark g w asked h)

@@ -6,7 +6,7 @@ ghost use lib.ListN.{length};
 ghost use Rattle.geometry.specs.Geometry.{room};
 ghost use Rattle.geometry.specs.Places.{pagePlace};
 ghost use Rattle.rules.specs.Level.{fenceKind};
-ghost use Rattle.rules.specs.Sound.{directoryRight, pagesOf, pagesRight};
+ghost use Rattle.rules.specs.Sound.{directoryRight, pagesOf, pagesRight, headRight, pageFormed};
 ghost use Rattle.slot.specs.Slot.{slotAt};
 ghost use Rattle.walk.specs.Passes.{countFits, leastFence, fenceUpTo, pageScanned, headScanned};
 ghost use Rattle.walk.specs.Step.{StepWithin, aboveStep, bottomStep, headStep, pageStep};
@@ -117,7 +117,8 @@ pub fn page_scan(
 ) -> Scan
     requires { ⌜ Lent g plan (now store) ⌝ }
     requires { ⌜ (1 ≤ level) × (level < g .levels) × (page < room g level) ⌝ }
-    ensures { λ r. ⌜ r ≡ pageScanned g (now (store .entry)) asked level page ⌝ }
+    ensures exact { λ r. ⌜ r ≡ pageScanned g (now (store .entry)) asked level page ⌝ }
+    ensures mark { λ r. ⌜ r .formed ≡ pageFormed g (now (store .entry)) level page ⌝ }
 {
     let place = page_place(store, g, plan, level, page);
     let count = store[place];
@@ -131,7 +132,8 @@ pub fn page_scan(
 // A pass over the head for a pair: formed tells whether the head is right.
 pub fn head_scan(store: &[u32], g: Geometry, plan: Plan, asked: Pair) -> Scan
     requires { ⌜ Lent g plan (now store) ⌝ }
-    ensures { λ r. ⌜ r ≡ headScanned g (now (store .entry)) asked ⌝ }
+    ensures exact { λ r. ⌜ r ≡ headScanned g (now (store .entry)) asked ⌝ }
+    ensures mark { λ r. ⌜ r .formed ≡ headRight g (now (store .entry)) ⌝ }
 {
     let count = store[8];
     let head_room = plan.head_room;

@@ -1,10 +1,9 @@
 -- `head_sound` tests the head: what ask tests of it, and that it is its writing. Assumes nothing.
 use Prim.Native.Nat.{_<_}
-use mathlib.Core.Path.{ap, _∙_}
+use mathlib.Core.Path.{_∙_}
 use Rattle.laws.specs.Tests.{told-no, told-past}
-use Rattle.page.specs.declared.Scan.{Scan}
 use Rattle.geometry.specs.Lent.{head-room-at, starts-at}
-use Rattle.walk.specs.Passes.{pages-of, head-mark}
+use Rattle.walk.specs.Passes.{pages-of}
 use Rattle.written.specs.Parts.{head-sound-parts}
 use Rattle.written.specs.Inside.{head-places}
 use native.Mathlib.Omega.{arith}
@@ -21,8 +20,7 @@ head-scan-requires c κs = search needs
 returns : tie.Need-returns
 returns c =
     let a = c .before .before .before .before .before .args in
-    let two : 1 < a .g .levels = omega (arith, c .before .before .before .before .before .pre .0 .in-range .levels-least) in
-    let mark = ap (λ (s : Scan). s .formed) (c .before .before .head-scan .ensures) ∙ head-mark (a .g) (a .store .now) _ two in
+    let mark = c .before .before .head-scan .ensures .1 in
     rw (head-sound-parts (a .g) (a .store .now), told-no _ _ mark (c .if1 .taken))
 
 element-copy-out-start : tie.Need-element-copy-out-start
@@ -42,7 +40,7 @@ head-written-requires c κs =
     let a = c .before .before .before .before .before .before .before .before .args in
     let l = c .before .before .before .before .before .before .before .before .pre .0 in
     let two : 1 < a .g .levels = omega (arith, l .in-range .levels-least) in
-    let mark = ap (λ (s : Scan). s .formed) (c .before .before .before .before .before .head-scan .ensures) ∙ head-mark (a .g) (a .store .now) _ two in
+    let mark = c .before .before .before .before .before .head-scan .ensures .1 in
     rw (head-room-at (a .g) (a .t3) (a .store .now) l, starts-at (a .g) (a .t3) (a .store .now) l 1 (omega arith) (omega arith), ← pages-of (a .g) (a .store .now) 1 two)
     (head-places (a .g) (a .store .now) (l .in-range) (c .before .before .before .before .before .before .before .before .pre .1) (l .exact) (told-past _ _ mark (c .before .before .before .if1 .left)))
 
@@ -51,7 +49,7 @@ returns-2 c =
     let a = c .before .before .before .before .before .before .before .before .before .args in
     let l = c .before .before .before .before .before .before .before .before .before .pre .0 in
     let two : 1 < a .g .levels = omega (arith, l .in-range .levels-least) in
-    let mark = ap (λ (s : Scan). s .formed) (c .before .before .before .before .before .before .head-scan .ensures) ∙ head-mark (a .g) (a .store .now) _ two in
+    let mark = c .before .before .before .before .before .before .head-scan .ensures .1 in
     c .head-written .ensures .0 ∙
     rw (head-sound-parts (a .g) (a .store .now), told-past _ _ mark (c .before .before .before .before .if1 .left), head-room-at (a .g) (a .t3) (a .store .now) l, starts-at (a .g) (a .t3) (a .store .now) l 1 (omega arith) (omega arith), ← pages-of (a .g) (a .store .now) 1 two)
 

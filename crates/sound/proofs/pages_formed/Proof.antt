@@ -2,12 +2,11 @@
 use Rattle.geometry.specs.Bounds.{room-small}
 use Prim.Native.Nat.{_≤_, _-_}
 use native.Mathlib.Nat.{sub-zero}
-use mathlib.Core.Path.{_≡_, sym, ap, _∙_}
+use mathlib.Core.Path.{_≡_, sym, _∙_}
 use Rattle.laws.specs.Tests.{told-no, told-past}
 use Rattle.laws.specs.Lists.{span, all}
-use Rattle.page.specs.declared.Scan.{Scan}
 use Rattle.rules.specs.Sound.{pagesOf, pageFormed}
-use Rattle.walk.specs.Passes.{pages-of, page-mark}
+use Rattle.walk.specs.Passes.{pages-of}
 use Rattle.walk.specs.Walk.{pages-in-room}
 use Rattle.sound.specs.Levels.{page-passes, page-fails, pages-end}
 use borrow.Author.Needs.{needs}
@@ -50,7 +49,7 @@ page-scan-requires c κs =
 returns : tie.Need-returns Inv-loop μ-loop
 returns c =
     let a = c .before .before .before .before .before .before .before .before .args in
-    let mark = ap (λ (s : Scan). s .formed) (c .before .before .page-scan .ensures) ∙ page-mark (a .g) (a .store .now) _ (a .level) (c .before .before .before .before .before .loop .p) (c .before .before .before .before .before .before .before .before .pre .1 .1 .1) in
+    let mark = c .before .before .page-scan .ensures .1 in
     sym (page-fails (pageFormed (a .g) (a .store .now) (a .level)) (c .before .before .before .before .before .loop .p) _ (c .before .before .before .before .loop-test .taken) (told-no _ _ mark (c .if1 .taken))) ∙ c .before .before .before .before .before .loop .inv .2
 
 add-p : tie.Need-add-p Inv-loop μ-loop
@@ -65,7 +64,7 @@ loop-less c = search needs
 loop-again : tie.Need-loop-again Inv-loop μ-loop
 loop-again c =
     let a = c .before .before .before .before .before .before .before .before .args in
-    let mark = ap (λ (s : Scan). s .formed) (c .before .before .page-scan .ensures) ∙ page-mark (a .g) (a .store .now) _ (a .level) (c .before .before .before .before .before .loop .p) (c .before .before .before .before .before .before .before .before .pre .1 .1 .1) in (
+    let mark = c .before .before .page-scan .ensures .1 in (
       omega arith,
       c .before .before .before .before .before .loop .inv .1,
       sym (page-passes (pageFormed (a .g) (a .store .now) (a .level)) (c .before .before .before .before .before .loop .p) _ (c .before .before .before .before .loop-test .taken) (told-past _ _ mark (c .if1 .left))) ∙ c .before .before .before .before .before .loop .inv .2,

@@ -1,7 +1,7 @@
 -- `head_scan` gives the pass over the head, marked with what ask tests of it. Assumes nothing.
 use Rattle.geometry.specs.Lent.{head-room-at, head-lent, head-least}
 use Rattle.rules.specs.Sound.{headSlots}
-use Rattle.walk.specs.Passes.{headScanned, marked}
+use Rattle.walk.specs.Passes.{headScanned, marked, head-told}
 use native.Mathlib.Omega.{arith}
 use borrow.Author.Needs.{needs}
 use Rattle.walk.proofs.head_scan.Statement.{statement}
@@ -54,7 +54,8 @@ returns : tie.Need-returns
 unfolding headScanned marked headSlots
 returns c =
     let a = c .before .before .before .before .before .before .before .before .before .before .before .before .before .before .before .before .args in
-    rw (c .both6 .ensures, c .before .both5 .ensures, c .before .before .both4 .ensures, c .before .before .before .both3 .ensures, c .before .before .before .before .before .before .both2 .ensures, c .before .before .before .before .before .before .before .is-least-fence .ensures, c .before .before .before .before .before .before .before .before .both .ensures, c .before .before .before .before .before .before .before .before .before .before .before .scan-run .ensures, c .before .before .before .before .before .before .before .before .before .before .before .before .before .lesser .ensures, head-room-at (a .g) (a .plan) (a .store .now) (c .before .before .before .before .before .before .before .before .before .before .before .before .before .before .before .before .pre))
+    head-told (a .g) (a .store .now) (a .asked) (omega (arith, c .before .before .before .before .before .before .before .before .before .before .before .before .before .before .before .before .pre .in-range .levels-least))
+    (rw (c .both6 .ensures, c .before .both5 .ensures, c .before .before .both4 .ensures, c .before .before .before .both3 .ensures, c .before .before .before .before .before .before .both2 .ensures, c .before .before .before .before .before .before .before .is-least-fence .ensures, c .before .before .before .before .before .before .before .before .both .ensures, c .before .before .before .before .before .before .before .before .before .before .before .scan-run .ensures, c .before .before .before .before .before .before .before .before .before .before .before .before .before .lesser .ensures, head-room-at (a .g) (a .plan) (a .store .now) (c .before .before .before .before .before .before .before .before .before .before .before .before .before .before .before .before .pre)))
 
 pub head-scan-spec : {M : Type 1} → statement M
 head-scan-spec =

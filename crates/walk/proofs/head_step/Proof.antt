@@ -1,10 +1,8 @@
 -- `head_step` gives what the head tells: its tests by `head-mark`, its answer by `head-tells`. Assumes nothing.
-use Prim.Native.Nat.{_<_}
 use mathlib.Core.Path.{ap, _∙_}
 use Rattle.laws.specs.Tests.{told-no, told-past}
 use Rattle.geometry.specs.Lent.{head-lent}
 use Rattle.page.specs.declared.Scan.{Scan}
-use Rattle.walk.specs.Passes.{head-mark}
 use Rattle.walk.specs.Read.{head-broken, head-first, head-some, head-reach-small, head-tells, head-within}
 use native.Mathlib.Omega.{arith}
 use borrow.Author.Needs.{needs}
@@ -17,8 +15,7 @@ head-scan-requires c κs = search needs
 returns : tie.Need-returns
 returns c =
     let a = c .before .before .before .before .args in
-    let two : 1 < a .g .levels = omega (arith, c .before .before .before .before .pre .in-range .levels-least) in
-    let mark = ap (λ (s : Scan). s .formed) (c .before .before .head-scan .ensures) ∙ head-mark (a .g) (a .store .now) (a .asked) two in
+    let mark = c .before .before .head-scan .ensures .1 in
     (head-broken (a .g) (a .store .now) (a .asked) (told-no _ _ mark (c .if1 .taken)), tt)
 
 cast-tell-above : tie.Need-cast-tell-above
@@ -27,9 +24,9 @@ cast-tell-above c = search needs
 tell-above-requires : tie.Need-tell-above-requires
 tell-above-requires c κs =
     let a = c .before .before .before .before .before .args in
-    let two : 1 < a .g .levels = omega (arith, c .before .before .before .before .before .pre .in-range .levels-least) in
-    let e = c .before .before .before .head-scan .ensures in
-    let right = told-past _ _ (ap (λ (s : Scan). s .formed) e ∙ head-mark (a .g) (a .store .now) (a .asked) two) (c .before .if1 .left) in (
+    let e = c .before .before .before .head-scan .ensures .0 in
+    let m = c .before .before .before .head-scan .ensures .1 in
+    let right = told-past _ _ m (c .before .if1 .left) in (
       (
         rw e (head-some (a .g) (a .store .now) (a .asked) right),
         omega (arith, ap (λ (s : Scan). s .reach) e, head-reach-small (a .g) (a .store .now) (a .asked) right, head-lent (a .g) (a .plan) (a .store .now) (c .before .before .before .before .before .pre)),
@@ -40,9 +37,9 @@ tell-above-requires c κs =
 returns-2 : tie.Need-returns-2
 returns-2 c =
     let a = c .before .before .before .before .before .before .args in
-    let two : 1 < a .g .levels = omega (arith, c .before .before .before .before .before .before .pre .in-range .levels-least) in
-    let e = c .before .before .before .before .head-scan .ensures in
-    let right = told-past _ _ (ap (λ (s : Scan). s .formed) e ∙ head-mark (a .g) (a .store .now) (a .asked) two) (c .before .before .if1 .left) in (
+    let e = c .before .before .before .before .head-scan .ensures .0 in
+    let m = c .before .before .before .before .head-scan .ensures .1 in
+    let right = told-past _ _ m (c .before .before .if1 .left) in (
       c .tell-above .ensures ∙ rw e (head-tells (a .g) (a .store .now) (a .asked) right),
       rw (c .tell-above .ensures, e) (head-within (a .g) (a .store .now) (a .asked) right),
     )

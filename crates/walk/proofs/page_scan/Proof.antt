@@ -1,7 +1,7 @@
 -- `page_scan` gives the pass over a page, marked with its page form. Assumes nothing.
 use Rattle.geometry.specs.Apart.{first-slot}
 use Rattle.rules.specs.Sound.{countAt, pageSlots}
-use Rattle.walk.specs.Passes.{pageScanned, marked}
+use Rattle.walk.specs.Passes.{pageScanned, marked, page-told}
 use borrow.Author.Needs.{needs}
 use Rattle.walk.proofs.page_scan.Statement.{statement}
 use Rattle.walk.proofs.page_scan.Tie as tie
@@ -38,7 +38,9 @@ both-requires c κs = search needs
 
 returns : tie.Need-returns
 unfolding pageScanned marked pageSlots countAt
-returns c = rw (c .both .ensures, c .before .count-right .ensures, c .before .before .scan-run .ensures, c .before .before .before .lesser .ensures, c .before .before .before .before .pages-below .ensures, c .before .before .before .before .before .before .page-place .ensures .0, first-slot (c .before .before .before .before .before .before .before .before .args .g) (c .before .before .before .before .before .before .before .before .args .level) (c .before .before .before .before .before .before .before .before .args .page))
+returns c = let a = c .before .before .before .before .before .before .before .before .args in
+    page-told (a .g) (a .store .now) (a .asked) (a .level) (a .page) (c .before .before .before .before .before .before .before .before .pre .1 .1)
+    (rw (c .both .ensures, c .before .count-right .ensures, c .before .before .scan-run .ensures, c .before .before .before .lesser .ensures, c .before .before .before .before .pages-below .ensures, c .before .before .before .before .before .before .page-place .ensures .0, first-slot (c .before .before .before .before .before .before .before .before .args .g) (c .before .before .before .before .before .before .before .before .args .level) (c .before .before .before .before .before .before .before .before .args .page)))
 
 pub page-scan-spec : {M : Type 1} → statement M
 page-scan-spec =

@@ -5,7 +5,6 @@ use mathlib.Core.Path.{_≡_, ap, _∙_}
 use mathlib.Core.Logic.{_≢_}
 use Rattle.laws.specs.Tests.{told-no, told-past}
 use Rattle.page.specs.declared.Scan.{Scan}
-use Rattle.walk.specs.Passes.{page-mark}
 use Rattle.walk.specs.Step.{bottom-within}
 use Rattle.walk.specs.Read.{page-broken, page-reach-small, page-bottom, page-first-broken, page-first, page-some, page-tells, page-within}
 use native.Mathlib.Omega.{arith}
@@ -19,7 +18,7 @@ page-scan-requires c κs = search needs
 returns : tie.Need-returns
 returns c =
     let a = c .before .before .before .before .args in
-    let mark = ap (λ (s : Scan). s .formed) (c .before .before .page-scan .ensures) ∙ page-mark (a .g) (a .store .now) (a .asked) (a .level) (a .page) (c .before .before .before .before .pre .1 .1) in
+    let mark = c .before .before .page-scan .ensures .1 in
     (page-broken (a .g) (a .store .now) (a .asked) (a .level) (a .page) (told-no _ _ mark (c .if1 .taken)), tt)
 
 page-place-requires : tie.Need-page-place-requires
@@ -40,15 +39,17 @@ cast-tell-bottom c = search needs
 tell-bottom-requires : tie.Need-tell-bottom-requires
 tell-bottom-requires c κs =
     let a = c .before .before .before .before .before .before .before .before .args in
-    let e = c .before .before .before .before .before .before .page-scan .ensures in
-    let formed = told-past _ _ (ap (λ (s : Scan). s .formed) e ∙ page-mark (a .g) (a .store .now) (a .asked) (a .level) (a .page) (c .before .before .before .before .before .before .before .before .pre .1 .1)) (c .before .before .before .before .if1 .left) in
+    let e = c .before .before .before .before .before .before .page-scan .ensures .0 in
+    let m = c .before .before .before .before .before .before .page-scan .ensures .1 in
+    let formed = told-past _ _ m (c .before .before .before .before .if1 .left) in
     omega (arith, ap (λ (s : Scan). s .reach) e, page-reach-small (a .g) (a .store .now) (a .asked) (a .level) (a .page) formed, c .before .before .before .page-place .ensures .1)
 
 returns-2 : tie.Need-returns-2
 returns-2 c =
     let a = c .before .before .before .before .before .before .before .before .before .args in
-    let e = c .before .before .before .before .before .before .before .page-scan .ensures in
-    let formed = told-past _ _ (ap (λ (s : Scan). s .formed) e ∙ page-mark (a .g) (a .store .now) (a .asked) (a .level) (a .page) (c .before .before .before .before .before .before .before .before .before .pre .1 .1)) (c .before .before .before .before .before .if1 .left) in
+    let e = c .before .before .before .before .before .before .before .page-scan .ensures .0 in
+    let m = c .before .before .before .before .before .before .before .page-scan .ensures .1 in
+    let formed = told-past _ _ m (c .before .before .before .before .before .if1 .left) in
     let b : a .g .levels ≡ suc (a .level) = omega (arith, c .before .before .if2 .taken) in (
       c .tell-bottom .ensures ∙ rw (e, c .before .before .before .before .page-place .ensures .0) (page-bottom (a .g) (a .store .now) (a .asked) (a .level) (a .page) formed b),
       rw (c .tell-bottom .ensures) (bottom-within _ _ _ _ _),
@@ -60,8 +61,8 @@ is-first-right-requires c κs = search needs
 returns-3 : tie.Need-returns-3
 returns-3 c =
     let a = c .before .before .before .before .before .before .before .before .before .args in
-    let e = c .before .before .before .before .before .before .before .page-scan .ensures in
-    let formed = told-past _ _ (ap (λ (s : Scan). s .formed) e ∙ page-mark (a .g) (a .store .now) (a .asked) (a .level) (a .page) (c .before .before .before .before .before .before .before .before .before .pre .1 .1)) (c .before .before .before .before .before .if1 .left) in
+    let m = c .before .before .before .before .before .before .before .page-scan .ensures .1 in
+    let formed = told-past _ _ m (c .before .before .before .before .before .if1 .left) in
     let d : a .level + 1 ≢ a .g .levels = c .before .before .if2 .left in
     let above : suc (a .level) < a .g .levels = omega (arith, c .before .before .before .before .before .before .before .before .before .pre .1 .1) in
     let f = rw (c .before .before .before .before .page-place .ensures .0) at (c .before .is-first-right .ensures) in
@@ -73,8 +74,9 @@ cast-tell-above c = search needs
 tell-above-requires : tie.Need-tell-above-requires
 tell-above-requires c κs =
     let a = c .before .before .before .before .before .before .before .before .before .before .args in
-    let e = c .before .before .before .before .before .before .before .before .page-scan .ensures in
-    let formed = told-past _ _ (ap (λ (s : Scan). s .formed) e ∙ page-mark (a .g) (a .store .now) (a .asked) (a .level) (a .page) (c .before .before .before .before .before .before .before .before .before .before .pre .1 .1)) (c .before .before .before .before .before .before .if1 .left) in
+    let e = c .before .before .before .before .before .before .before .before .page-scan .ensures .0 in
+    let m = c .before .before .before .before .before .before .before .before .page-scan .ensures .1 in
+    let formed = told-past _ _ m (c .before .before .before .before .before .before .if1 .left) in
     let d : a .level + 1 ≢ a .g .levels = c .before .before .before .if2 .left in
     let above : suc (a .level) < a .g .levels = omega (arith, c .before .before .before .before .before .before .before .before .before .before .pre .1 .1) in
     let first = told-past _ _ (rw (c .before .before .before .before .before .page-place .ensures .0) at (c .before .before .is-first-right .ensures)) (c .before .if3 .left) in (
@@ -88,8 +90,9 @@ tell-above-requires c κs =
 returns-4 : tie.Need-returns-4
 returns-4 c =
     let a = c .before .before .before .before .before .before .before .before .before .before .before .args in
-    let e = c .before .before .before .before .before .before .before .before .before .page-scan .ensures in
-    let formed = told-past _ _ (ap (λ (s : Scan). s .formed) e ∙ page-mark (a .g) (a .store .now) (a .asked) (a .level) (a .page) (c .before .before .before .before .before .before .before .before .before .before .before .pre .1 .1)) (c .before .before .before .before .before .before .before .if1 .left) in
+    let e = c .before .before .before .before .before .before .before .before .before .page-scan .ensures .0 in
+    let m = c .before .before .before .before .before .before .before .before .before .page-scan .ensures .1 in
+    let formed = told-past _ _ m (c .before .before .before .before .before .before .before .if1 .left) in
     let d : a .level + 1 ≢ a .g .levels = c .before .before .before .before .if2 .left in
     let above : suc (a .level) < a .g .levels = omega (arith, c .before .before .before .before .before .before .before .before .before .before .before .pre .1 .1) in
     let first = told-past _ _ (rw (c .before .before .before .before .before .before .page-place .ensures .0) at (c .before .before .before .is-first-right .ensures)) (c .before .before .if3 .left) in (
