@@ -1,6 +1,8 @@
--- The public calls on any words, in the paper's numbers: the tests that come first (Opening), then each call.
+-- The public calls on any words, in the paper's numbers: the tests that come first (Opening), then each call, and that each has one
+-- answer (Unique).
 pub mod Reply
 pub mod Opening
 pub mod Ask
 pub mod Check
 pub mod List
+pub mod Unique

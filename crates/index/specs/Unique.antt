@@ -1,0 +1,79 @@
+-- Two answers that one promise allows are equal: the number and values of a reply tell the answer that they are of. Assumes nothing.
+use Prim.Native.Nat.{ℕ, zero, suc}
+use mathlib.Core.Path.{_≡_, refl, sym, ap, _∙_}
+use mathlib.Core.Bool.{Bool, true, false}
+use mathlib.Core.List.{List}
+use lib.ListN.{getD}
+use lib.Dec.{eqb}
+use Rattle.slot.specs.declared.Pair.{Pair}
+use Rattle.index.specs.declared.Asked.{Asked}
+use Rattle.index.specs.declared.Checked.{Checked}
+use Rattle.index.specs.declared.Shown.{Shown}
+use Rattle.index.specs.declared.Asked.the-variants.{Answer, Range, Length, Fault}
+use Rattle.index.specs.declared.Checked.the-variants.{Done, Range as Range-of-check, Length as Length-of-check, Fault as Fault-of-check}
+use Rattle.index.specs.declared.Shown.the-variants.{Pairs, Range as Range-of-list, Length as Length-of-list, Fault as Fault-of-list}
+use Rattle.index.specs.Reply.{Reply}
+use Rattle.index.specs.Ask.{askReply, askOf}
+use Rattle.index.specs.Check.{checkReply, checkOf}
+use Rattle.index.specs.List.{Filled, listReply, listOf}
+
+-- A choice by the reply's number: 0, 1, and 5 or 6 told apart by whether it is 5.
+pick : {A : Type 0} → ℕ → A → A → A → A → A
+pick zero done range length fault = done
+pick (suc zero) done range length fault = range
+pick (suc (suc n)) done range length fault = elim (eqb n 3) [ true ↦ length | false ↦ fault ]
+
+-- Ask.
+askedBy : Reply → Asked
+askedBy r = pick (r .number) (Answer (eqb (getD (r .values) 0 0) 1) (getD (r .values) 1 0)) Range Length (Fault (getD (r .values) 0 0))
+
+ask-told : (a : Asked) → askedBy (askReply a) ≡ a
+unfolding askedBy pick
+ask-told (Answer true level) = refl
+ask-told (Answer false level) = refl
+ask-told Range = refl
+ask-told Length = refl
+ask-told (Fault level) = refl
+
+pub ask-has-one-answer : (w : List ℕ) (pair : Pair) (a b : Asked) → askReply a ≡ askOf w pair → askReply b ≡ askOf w pair → a ≡ b
+ask-has-one-answer w pair a b p q = sym (ask-told a) ∙ ap askedBy (p ∙ sym q) ∙ ask-told b
+
+-- Check.
+checkedBy : Reply → Checked
+checkedBy r = pick (r .number) Done Range-of-check Length-of-check (Fault-of-check (getD (r .values) 0 0))
+
+check-told : (a : Checked) → checkedBy (checkReply a) ≡ a
+unfolding checkedBy pick
+check-told Done = refl
+check-told Range-of-check = refl
+check-told Length-of-check = refl
+check-told (Fault-of-check level) = refl
+
+pub check-has-one-answer : (w : List ℕ) (a b : Checked) → checkReply a ≡ checkOf w → checkReply b ≡ checkOf w → a ≡ b
+check-has-one-answer w a b p q = sym (check-told a) ∙ ap checkedBy (p ∙ sym q) ∙ check-told b
+
+-- List, with every word of the slice.
+shownBy : Filled → Shown
+shownBy f =
+    let r = f .reply in
+    pick (r .number) (Pairs (getD (r .values) 0 0) (getD (r .values) 1 0)) Range-of-list Length-of-list (Fault-of-list (getD (r .values) 0 0))
+
+list-told : (a : Shown) (words : List ℕ) → shownBy (listReply a words) ≡ a
+unfolding shownBy pick
+list-told (Pairs pairs mark) words = refl
+list-told Range-of-list words = refl
+list-told Length-of-list words = refl
+list-told (Fault-of-list level) words = refl
+
+words-told : (a : Shown) (words : List ℕ) → (listReply a words) .words ≡ words
+words-told (Pairs pairs mark) words = refl
+words-told Range-of-list words = refl
+words-told Length-of-list words = refl
+words-told (Fault-of-list level) words = refl
+
+pub list-has-one-answer : (w : List ℕ) (first second : Pair) (slice : List ℕ) (a b : Shown) (v u : List ℕ) →
+    listReply a v ≡ listOf w first second slice → listReply b u ≡ listOf w first second slice → (a ≡ b) × (v ≡ u)
+list-has-one-answer w first second slice a b v u p q = (
+  sym (list-told a v) ∙ ap shownBy (p ∙ sym q) ∙ list-told b u,
+  sym (words-told a v) ∙ ap (λ (f : Filled). f .words) (p ∙ sym q) ∙ words-told b u,
+)
