@@ -21,7 +21,7 @@ use Rattle.rules.specs.Level.{pageOf as pageSlotsOf}
 use Rattle.rules.specs.Finding.{find, held, atMost, stepBack, tellFrom, tell, walk, ask}
 use Rattle.rules.specs.Merging.{toggle, join, merge, pagesWritten, settle, toggleHead, edit, State, formatted, entries, Outcome, refused, done, put, remove}
 use Rattle.rules.specs.Listing.{insert, pairsWith, pairsOf, heldBetween, pairWords, list}
-use Rattle.rules.specs.Store.{runWords, pageWords, levelWords, pageCount, directory, writing}
+use Rattle.rules.specs.Store.{runWords, pageWords, levelWords, pageCount, directory, laidOut, writing}
 use Rattle.rules.specs.Sound.{pagesOf, slotsFrom, headSlots, countAt, pageSlots, levelSlots, entriesOf, firstAt, treeOf, pagesRight, directoryRight, follows, inOrder, legal, fencePages, firstIsLeast, headRight, countRight, pageFormed, ascending, levelLaid, withinCapacity, levelSound, headSound, alternating, countKind, liveRight, Fault, sound, faultAt, levelsFault, acrossFault, else, fault}
 use Rattle.rules.specs.Allowance.{allowedTo, allowed}
 
@@ -260,5 +260,5 @@ table =
 
 -- The rules give what the table says.
 pub bench-table : map observed table ≡ map (λ c. c .shows) table
-unfolding outcome run final puts drops sum pagesIn seen observed case1 case2 case2′ case3 case4 case5 case5′ case6 case7 case8 case9 case11 cancels staysDropped smallerBadge fenceFirst table span concat passing capacity most total roomOver room roomBefore rank least before same kindNamed kindOf pageOf tagOf wordsOf index external internal pagesFor firstOf fenceOf fences place weave paged over layOn laid headOn slotsOf pageSlotsOf find held atMost stepBack tellFrom tell walk ask toggle join merge pagesWritten settle toggleHead edit formatted entries refused done put remove allowedTo allowed headRoom levelStart pagePlace slotPlace slotAt insert pairsWith pairsOf heldBetween pairWords list runWords pageWords levelWords pageCount directory writing pagesOf slotsFrom headSlots countAt pageSlots levelSlots entriesOf firstAt treeOf pagesRight directoryRight follows inOrder legal fencePages firstIsLeast headRight countRight pageFormed ascending levelLaid withinCapacity levelSound headSound alternating countKind liveRight levelsFault acrossFault else fault all equal
+unfolding outcome run final puts drops sum pagesIn seen observed case1 case2 case2′ case3 case4 case5 case5′ case6 case7 case8 case9 case11 cancels staysDropped smallerBadge fenceFirst table span concat passing capacity most total roomOver room roomBefore rank least before same kindNamed kindOf pageOf tagOf wordsOf index external internal pagesFor firstOf fenceOf fences place weave paged over layOn laid headOn slotsOf pageSlotsOf find held atMost stepBack tellFrom tell walk ask toggle join merge pagesWritten settle toggleHead edit formatted entries refused done put remove allowedTo allowed headRoom levelStart pagePlace slotPlace slotAt insert pairsWith pairsOf heldBetween pairWords list runWords pageWords levelWords pageCount directory laidOut writing pagesOf slotsFrom headSlots countAt pageSlots levelSlots entriesOf firstAt treeOf pagesRight directoryRight follows inOrder legal fencePages firstIsLeast headRight countRight pageFormed ascending levelLaid withinCapacity levelSound headSound alternating countKind liveRight levelsFault acrossFault else fault all equal
 bench-table = refl

@@ -8,6 +8,8 @@
 --   Listing   "List"
 --   Store     the writing of a whole store, word by word
 --   Sound     "Sound stores"
+--   Good      good states, and what a cascade of merges keeps
+--   Reading   what reading a store laid out in slots gives
 --   Bench     the bench table, proved
 pub mod Tree
 pub mod Level
@@ -16,5 +18,7 @@ pub mod Merging
 pub mod Listing
 pub mod Store
 pub mod Sound
+pub mod Good
+pub mod Reading
 pub mod Allowance
 pub mod Bench

@@ -35,11 +35,13 @@ unfoldable pub directory : Geometry → ℕ → List (List Slot) → List ℕ
 directory g live ss =
     g .head ∷ g .ratio ∷ g .levels ∷ live ∷ pageCount g ss 1 ∷ pageCount g ss 2 ∷ pageCount g ss 3 ∷ 0 ∷ length (getD ss 0 []) ∷ []
 
--- Then H + Pg(1) head slots, then each level's pages in order.
+-- Then H + Pg(1) head slots, then each level's pages in order. The slots of the levels are given.
+unfoldable pub laidOut : Geometry → ℕ → List (List Slot) → List ℕ
+laidOut g live ss =
+    directory g live ss ++ (runWords (getD ss 0 []) (headRoom g) ++ concat (span (λ i. levelWords (getD ss i []) (room g i)) 1 (bottom g)))
+
 unfoldable pub writing : Geometry → State → List ℕ
-writing g s =
-    let ss = slotsOf (s .tree) in
-    directory g (s .live) ss ++ (runWords (getD ss 0 []) (headRoom g) ++ concat (span (λ i. levelWords (getD ss i []) (room g i)) 1 (bottom g)))
+writing g s = laidOut g (s .live) (slotsOf (s .tree))
 
 -- Format makes the store of the empty set.
 unfoldable pub emptyStore : Geometry → List ℕ
