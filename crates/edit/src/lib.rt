@@ -1,0 +1,141 @@
+// The head edited in place: an entry put in or taken out, live changed, nothing else; and the index entries of each level counted.
+ghost use Prim.Native.Nat.{_+_, _*_, _≤_, _<_};
+ghost use mathlib.Core.Path.{_≡_};
+ghost use lib.ListN.{length, getD, set};
+ghost use lib.Seq.{sets, slice};
+ghost use Rattle.geometry.specs.Geometry.{InRange};
+ghost use Rattle.geometry.specs.Places.{planOf, storeWords, liveWord, headCountWord, headStart};
+ghost use Rattle.slot.specs.Slot.{wordsOf};
+ghost use Rattle.rules.specs.Level.{index};
+ghost use Rattle.rules.specs.Merging.{entries};
+ghost use Rattle.rules.specs.Sound.{treeOf};
+ghost use Rattle.entries.specs.Run.{Inside, entry as indexed, entriesIn};
+ghost use Rattle.entries.specs.Levels.{AllInside, PagesWithin, treeIn};
+ghost use Rattle.edit.specs.Head.{slotIn, slotOut, entryAdded, entryRemoved};
+use entries::Entry;
+use entries::Next;
+use entries::Run;
+use entries::Runs;
+use geometry::Geometry;
+use geometry::Plan;
+use slot::Kind;
+use slot::Pid;
+use slot::Slot;
+
+// Adds an entry to the head behind the first slots, so many.
+pub fn add_entry(store: &mut [u32], entry: Entry, behind: u32)
+    requires { ⌜ behind ≤ getD (now store) headCountWord 0 ⌝ }
+    requires { ⌜ headStart + 3 * (getD (now store) headCountWord 0 + 1) ≤ length (now store) ⌝ }
+    requires { ⌜ length (now store) ≤ 600000 ⌝ }
+    ensures { λ _. ⌜ now (store .exit) ≡ entryAdded (indexed entry) behind (now (store .entry)) ⌝ }
+{
+    let count = store[geometry::HEAD_COUNT];
+    let place = geometry::HEAD_START + geometry::SLOT_WORDS * behind as usize;
+    let end = geometry::HEAD_START + geometry::SLOT_WORDS * count as usize;
+    put_in(store, place, end, index_slot(entry));
+    store[geometry::HEAD_COUNT] = count + 1;
+}
+
+// Removes the entry in slot number at of the head.
+pub fn remove_entry(store: &mut [u32], at: u32)
+    requires { ⌜ at < getD (now store) headCountWord 0 ⌝ }
+    requires { ⌜ headStart + 3 * getD (now store) headCountWord 0 ≤ length (now store) ⌝ }
+    requires { ⌜ length (now store) ≤ 600000 ⌝ }
+    ensures { λ _. ⌜ now (store .exit) ≡ entryRemoved at (now (store .entry)) ⌝ }
+{
+    let count = store[geometry::HEAD_COUNT];
+    let place = geometry::HEAD_START + geometry::SLOT_WORDS * at as usize;
+    let end = geometry::HEAD_START + geometry::SLOT_WORDS * count as usize;
+    take_out(store, place, end);
+    store[geometry::HEAD_COUNT] = count - 1;
+}
+
+// The slot of an index entry.
+pub fn index_slot(entry: Entry) -> Slot
+    ensures { λ r. ⌜ r ≡ index (indexed entry) ⌝ }
+{
+    let pair = entry.pair;
+    let kind = if entry.normal {
+        Kind::Normal
+    } else {
+        Kind::Filter
+    };
+    Slot {
+        pair,
+        kind,
+        page: Pid(0),
+    }
+}
+
+// Puts a slot in at a place; the words from there to the end move up by a slot.
+fn put_in(words: &mut [u32], place: usize, end: usize, slot: Slot)
+    requires { ⌜ (place ≤ end) × (end + 3 ≤ length (now words)) ⌝ }
+    requires { ⌜ slot .page .0 ≡ 0 ⌝ }
+    ensures { λ _. ⌜ now (words .exit) ≡ slotIn slot place end (now (words .entry)) ⌝ }
+{
+    let mut i = end;
+    while place < i {
+        i -= 1;
+        words[i + 3] = words[i];
+    }
+    slot::write_slot(words, place, slot);
+}
+
+// Takes out the slot at a place; the words behind it to the end move down, and the slot that they leave is erased.
+fn take_out(words: &mut [u32], place: usize, end: usize)
+    requires { ⌜ (place + 3 ≤ end) × (end ≤ length (now words)) ⌝ }
+    ensures { λ _. ⌜ now (words .exit) ≡ slotOut place end (now (words .entry)) ⌝ }
+{
+    let mut i = place;
+    while i + 3 < end {
+        words[i] = words[i + 3];
+        i += 1;
+    }
+    words[i] = geometry::ERASED;
+    words[i + 1] = geometry::ERASED;
+    words[i + 2] = geometry::ERASED;
+}
+
+// The index entries in each level, by kind alone.
+pub fn entry_counts(store: &[u32], g: Geometry, plan: Plan) -> [u32; 4]
+    requires { ⌜ InRange g ⌝ }
+    requires { ⌜ plan ≡ planOf g ⌝ }
+    requires { ⌜ length (now store) ≡ storeWords g ⌝ }
+    requires { ⌜ PagesWithin g (now store) ⌝ }
+    ensures { λ r. ⌜ r ≡ entries (treeOf g (now (store .entry))) ⌝ }
+{
+    let runs = entries::runs_of(store, g, plan);
+    counts_in(store, runs)
+}
+
+// Those of four runs.
+fn counts_in(words: &[u32], runs: Runs) -> [u32; 4]
+    requires { ⌜ AllInside runs (length (now words)) ⌝ }
+    ensures { λ r. ⌜ r ≡ entries (treeIn (now (words .entry)) runs) ⌝ }
+{
+    let run = runs.head;
+    let head = count_entries(words, run);
+    let run = runs.first;
+    let first = count_entries(words, run);
+    let run = runs.second;
+    let second = count_entries(words, run);
+    let run = runs.third;
+    let third = count_entries(words, run);
+    [head, first, second, third]
+}
+
+// The index entries of a run.
+pub fn count_entries(words: &[u32], run: Run) -> u32
+    requires { ⌜ Inside run (length (now words)) ⌝ }
+    ensures { λ r. ⌜ r ≡ length (entriesIn (now (words .entry)) run) ⌝ }
+{
+    let mut count: u32 = 0;
+    let mut front = entries::first_entry(words, run);
+    loop {
+        let Next::Found(_, cursor) = front else {
+            return count;
+        };
+        front = entries::next_entry(words, run, cursor);
+        count += 1;
+    }
+}
