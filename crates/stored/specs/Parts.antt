@@ -7,6 +7,7 @@ use mathlib.Core.Path.{_≡_, refl, sym, ap, _∙_}
 use mathlib.Core.List.{List, [], _++_, append-assoc}
 use lib.ListN.{length, getD, take, drop, replicate, length-append, length-replicate, take-append-drop}
 use lib.Seq.{take-at, drop-at, drop-drop}
+use borrow.Author.Tests.{lt-ltb, le-ltb}
 use Rattle.laws.specs.Lists.{span, concat}
 use Rattle.geometry.specs.declared.Geometry.{Geometry}
 use Rattle.geometry.specs.Geometry.{InRange, bottom, room}
@@ -14,8 +15,8 @@ use Rattle.geometry.specs.Places.{erased, headStart, headRoom, levelStart, stor
 use Rattle.geometry.specs.Bounds.{room-none}
 use Rattle.geometry.specs.Apart.{level-one, level-after}
 use Rattle.slot.specs.declared.Slot.{Slot}
-use Rattle.rules.specs.Store.{runWords, levelWords, directory, laidOut}
-use Rattle.rules.specs.Good.{Fits}
+use Rattle.rules.specs.Level.{pagesFor}
+use Rattle.rules.specs.Store.{runWords, levelWords, pageCount, directory, laidOut}
 use Rattle.written.specs.Run.{wordsOfAll, words-length}
 use Rattle.written.specs.Pages.{levelPage, level-pages, level-page-length}
 use Rattle.stored.specs.Joined.{joined-length, joined-part, parts-joined}
@@ -30,6 +31,15 @@ run-words slots n h =
 pub level-words : (slots : List Slot) (n : ℕ) → length (levelWords slots n) ≡ 64 * n
 level-words slots n =
     rw (level-pages slots n) (rw (zero-add n, zero-add) at (joined-length (levelPage slots) (λ p. 64 * p) (λ p. omega (arith, level-page-length slots p)) 0 n))
+
+-- The page count of a level, and of one that does not exist.
+pub page-count : (g : Geometry) (ss : List (List Slot)) (i : ℕ) → i < g .levels → pageCount g ss i ≡ pagesFor (length (getD ss i []))
+unfolding pageCount
+page-count g ss i h = rw (lt-ltb i (g .levels) h, pageCount)
+
+pub no-page-count : (g : Geometry) (ss : List (List Slot)) (i : ℕ) → g .levels ≤ i → pageCount g ss i ≡ 0
+unfolding pageCount
+no-page-count g ss i h = rw (le-ltb i (g .levels) h, pageCount)
 
 -- Behind the bottom there is no more room: the store ends there.
 levels-end : (g : Geometry) (n : ℕ) → levelStart g (n + g .levels) ≡ levelStart g (g .levels)

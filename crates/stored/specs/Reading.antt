@@ -6,7 +6,6 @@ use mathlib.Core.Path.{_≡_, refl, sym, ap, _∙_}
 use mathlib.Core.List.{List, []}
 use lib.ListN.{length, getD, take, drop}
 use lib.Seq.{getD-take, getD-drop}
-use borrow.Author.Tests.{lt-ltb, le-ltb}
 use Rattle.laws.specs.Lists.{span, getD-span}
 use Rattle.geometry.specs.declared.Geometry.{Geometry}
 use Rattle.geometry.specs.Geometry.{InRange, room}
@@ -26,7 +25,7 @@ use Rattle.written.specs.Run.{run-slots}
 use Rattle.written.specs.Pages.{page-length, slots-length, count-read, page-read, level-read}
 use Rattle.written.specs.Parts.{level-own}
 use Rattle.entries.specs.Levels.{pages-there}
-use Rattle.stored.specs.Parts.{Parts, laid-parts}
+use Rattle.stored.specs.Parts.{Parts, page-count, no-page-count, laid-parts}
 
 -- Every level has a page, and every page but the first has a slot.
 pub pages-least : (n : ℕ) → 1 ≤ pagesFor n
@@ -75,14 +74,6 @@ module _ (g : Geometry) (w : List ℕ) (i : ℕ) (slots : List Slot) (whole : le
       getD-take 21 (drop (21 * p) slots) 0 none (omega arith) ∙ getD-drop (21 * p) slots 0 none ∙ ap (λ (m : ℕ). getD slots m none) y)
 
 -- What stands in the directory.
-page-count : (g : Geometry) (ss : List (List Slot)) (i : ℕ) → i < g .levels → pageCount g ss i ≡ pagesFor (length (getD ss i []))
-unfolding pageCount
-page-count g ss i h = rw (lt-ltb i (g .levels) h, pageCount)
-
-no-page-count : (g : Geometry) (ss : List (List Slot)) (i : ℕ) → g .levels ≤ i → pageCount g ss i ≡ 0
-unfolding pageCount
-no-page-count g ss i h = rw (le-ltb i (g .levels) h, pageCount)
-
 directory-pages : (g : Geometry) (live : ℕ) (ss : List (List Slot)) (i : ℕ) → 1 ≤ i → i ≤ 3 → getD (directory g live ss) (pagesWord i) 0 ≡ pageCount g ss i
 unfolding directory
 directory-pages g live ss zero l u = absurd (omega arith)
