@@ -9,3 +9,6 @@ pub mod Replacing
 pub mod Slots
 pub mod Back
 pub mod Over
+pub mod Passed
+pub mod Fitting
+pub mod Sound
