@@ -1,16 +1,15 @@
 -- The state that the words of a store hold, and that the writing of a tree is read back as that tree. Assumes nothing.
-use Prim.Native.Nat.{ℕ, zero, suc, _+_, _-_, _≤_, _<_}
+use Prim.Native.Nat.{ℕ, zero, suc, _≤_, _<_}
 use native.Mathlib.Omega.{arith}
 use mathlib.Core.Path.{_≡_, refl, sym, ap, _∙_}
-use mathlib.Core.List.{List, [], _∷_}
+use mathlib.Core.List.{List, []}
 use lib.ListN.{length, getD}
 use lib.Seq.{ext-getD}
-use Rattle.laws.specs.Lists.{span, length-span, getD-span}
+use Rattle.laws.specs.Lists.{length-span, getD-span}
 use Rattle.geometry.specs.declared.Geometry.{Geometry}
 use Rattle.geometry.specs.Geometry.{InRange, bottom}
 use Rattle.geometry.specs.Places.{liveWord}
-use Rattle.slot.specs.declared.Slot.{Slot}
-use Rattle.rules.specs.Tree.{Level, Tree, level}
+use Rattle.rules.specs.Tree.{Tree, level}
 use Rattle.rules.specs.Level.{slotsOf}
 use Rattle.rules.specs.Merging.{State}
 use Rattle.rules.specs.Store.{laidOut}

@@ -1,18 +1,15 @@
 -- The entries of a store whose words are below 2³² fit their words. Assumes nothing.
-use Prim.Native.Nat.{ℕ, zero, suc, _+_, _-_, _*_, _/_, _≤_, _<_, _^_}
+use Prim.Native.Nat.{ℕ, zero, suc, _+_, _*_, _<_}
 use native.Mathlib.Omega.{arith}
-use mathlib.Core.Path.{_≡_, refl, sym, ap, _∙_}
 use mathlib.Core.Bool.{Bool, true, false}
 use mathlib.Core.List.{List, [], _∷_, _++_}
-use lib.ListN.{length, getD}
+use lib.ListN.{getD}
 use Rattle.laws.specs.Lists.{span, concat}
 use Rattle.geometry.specs.declared.Geometry.{Geometry}
 use Rattle.geometry.specs.Geometry.{bottom}
 use Rattle.slot.specs.declared.Slot.{Slot}
-use Rattle.slot.specs.Pair.{Words}
 use Rattle.slot.specs.Tag.{pageOf}
 use Rattle.slot.specs.Slot.{slotAt}
-use Rattle.rules.specs.Tree.{Level}
 use Rattle.rules.specs.Level.{fenceKind}
 use Rattle.rules.specs.Sound.{pagesOf, slotsFrom, headSlots, pageSlots, levelSlots, entriesOf, treeOf}
 use Rattle.rules.specs.Good.{LevelFits, TreeFits, SlotFits, SlotsFit}
@@ -46,7 +43,7 @@ module _ (g : Geometry) (w : List ℕ) (fits : WordsFit w) where
   span-fits f i zero = tt
   span-fits f i (suc n) = (slot-fits (f i), span-fits f (suc i) n)
 
-  pub slots-fit : (at n : ℕ) → SlotsFit (slotsFrom w at n)
+  slots-fit : (at n : ℕ) → SlotsFit (slotsFrom w at n)
   unfolding slotsFrom
   slots-fit at n = span-fits (λ j. at + 3 * j) 0 n
 

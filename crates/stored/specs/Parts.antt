@@ -6,7 +6,7 @@ use native.Mathlib.Omega.{arith}
 use mathlib.Core.Path.{_≡_, refl, sym, ap, _∙_}
 use mathlib.Core.List.{List, [], _++_, append-assoc}
 use lib.ListN.{length, getD, take, drop, replicate, length-append, length-replicate, take-append-drop}
-use lib.Seq.{take-at, drop-at, drop-drop}
+use lib.Seq.{take-at, drop-drop}
 use borrow.Author.Tests.{lt-ltb, le-ltb}
 use Rattle.laws.specs.Lists.{span, concat}
 use Rattle.geometry.specs.declared.Geometry.{Geometry}
@@ -46,7 +46,7 @@ levels-end : (g : Geometry) (n : ℕ) → levelStart g (n + g .levels) ≡ level
 levels-end g zero = rw (zero-add (g .levels)) refl
 levels-end g (suc n) = rw (suc-add n (g .levels)) (omega (arith, level-after g (n + g .levels), room-none g (n + g .levels) (omega arith), levels-end g n))
 
-pub store-end : (g : Geometry) → InRange g → levelStart g (g .levels) ≡ storeWords g
+store-end : (g : Geometry) → InRange g → levelStart g (g .levels) ≡ storeWords g
 unfolding storeWords
 store-end g fit =
     let e : 4 - g .levels + g .levels ≡ 4 = omega (arith, fit .levels-most) in

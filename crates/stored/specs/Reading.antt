@@ -1,22 +1,20 @@
 -- Reading a store that is laid out in slots gives those slots back, level by level and page by page. Assumes nothing.
-use Prim.Native.Nat.{ℕ, zero, suc, _+_, _-_, _*_, _≤_, _<_, min}
-use native.Mathlib.Nat.{zero-add, add-zero}
+use Prim.Native.Nat.{ℕ, zero, suc, _+_, _*_, _≤_, _<_, min}
 use native.Mathlib.Omega.{arith}
 use mathlib.Core.Path.{_≡_, refl, sym, ap, _∙_}
 use mathlib.Core.List.{List, []}
 use lib.ListN.{length, getD, take, drop}
 use lib.Seq.{getD-take, getD-drop}
-use Rattle.laws.specs.Lists.{span, getD-span}
+use Rattle.laws.specs.Lists.{getD-span}
 use Rattle.geometry.specs.declared.Geometry.{Geometry}
 use Rattle.geometry.specs.Geometry.{InRange, room}
 use Rattle.geometry.specs.Places.{pagesWord, headCountWord, headStart, headRoom, levelStart, pagePlace, slotPlace, storeWords}
 use Rattle.geometry.specs.Apart.{level-one, level-after, level-inside, first-slot}
-use Rattle.slot.specs.declared.Pair.{Pair}
 use Rattle.slot.specs.declared.Slot.{Slot}
 use Rattle.slot.specs.Pair.{least}
 use Rattle.slot.specs.Slot.{slotAt}
 use Rattle.rules.specs.Level.{external, pagesFor, pageOf, firstOf}
-use Rattle.rules.specs.Store.{runWords, levelWords, pageCount, directory, laidOut}
+use Rattle.rules.specs.Store.{levelWords, pageCount, directory, laidOut}
 use Rattle.rules.specs.Sound.{geometryOf, pagesOf, slotsFrom, headSlots, countAt, pageSlots, levelSlots, firstAt}
 use Rattle.rules.specs.Good.{Fits}
 use Rattle.rules.specs.Reading.{Reads}
@@ -28,11 +26,11 @@ use Rattle.entries.specs.Levels.{pages-there}
 use Rattle.stored.specs.Parts.{Parts, page-count, no-page-count, laid-parts}
 
 -- Every level has a page, and every page but the first has a slot.
-pub pages-least : (n : ℕ) → 1 ≤ pagesFor n
+pages-least : (n : ℕ) → 1 ≤ pagesFor n
 unfolding pagesFor
 pages-least n = omega arith
 
-pub page-within : (n p : ℕ) → 21 * p < n → p < pagesFor n
+page-within : (n p : ℕ) → 21 * p < n → p < pagesFor n
 unfolding pagesFor
 page-within n p h = omega arith
 

@@ -1,6 +1,6 @@
 -- Storing other slots over a level or the head of a store that is laid out in slots, with their count in the directory, lays the store out
 -- anew; so does storing another number of live pairs. Assumes nothing.
-use Prim.Native.Nat.{ℕ, zero, suc, _+_, _-_, _*_, _≤_, _<_}
+use Prim.Native.Nat.{ℕ, zero, suc, _+_, _*_, _≤_, _<_}
 use native.Mathlib.Omega.{arith}
 use mathlib.Core.Path.{_≡_, refl, sym, ap, _∙_}
 use mathlib.Core.Bool.{Bool, true, false}
@@ -17,7 +17,7 @@ use Rattle.geometry.specs.Apart.{level-after, level-before, level-inside}
 use Rattle.slot.specs.declared.Slot.{Slot}
 use Rattle.rules.specs.Level.{pagesFor}
 use Rattle.rules.specs.Store.{runWords, levelWords, pageCount, directory, laidOut}
-use Rattle.rules.specs.Good.{Fits}
+use Rattle.rules.specs.Good.{SlotsFit, Fits}
 use Rattle.stored.specs.Parts.{Parts, run-words, level-words, laid-parts, parts-laid, page-count}
 use Rattle.stored.specs.Sets.{part-before, part-behind, part-stored}
 
@@ -46,7 +46,7 @@ module _ (g : Geometry) (ss : List (List Slot)) (i : ℕ) (slots : List Slot) (t
   count-here : i < g .levels → pageCount g (set ss i slots) i ≡ pagesFor (length slots)
   count-here u = page-count g (set ss i slots) i u ∙ ap (λ (l : List Slot). pagesFor (length l)) slots-here
 
--- So are the directories.
+-- So is the directory, where the count is stored in it.
 directory-level : (g : Geometry) (live : ℕ) (ss : List (List Slot)) (i : ℕ) (slots : List Slot) → i < length ss → 1 ≤ i → i < g .levels → i ≤ 3 →
     set (directory g live ss) (pagesWord i) (pagesFor (length slots)) ≡ directory g live (set ss i slots)
 unfolding directory
@@ -85,110 +85,133 @@ directory-head g live ss slots h =
       count-other g ss 0 slots h 3 (λ e. omega (arith, e)),
     ) refl
 
--- The slots of level i replaced, and its page count.
-module _ (g : Geometry) (live : ℕ) (ss : List (List Slot)) (fit : InRange g) (fits : Fits g ss) where
-  before : Parts g live ss (laidOut g live ss)
-  before = laid-parts g live ss fit (fits .head)
+-- The slots still fit, where the new ones do.
+fits-other : (g : Geometry) (ss : List (List Slot)) (i : ℕ) (slots : List Slot) → i < length ss → Fits g ss → SlotsFit slots → (j : ℕ) →
+    SlotsFit (getD (set ss i slots) j [])
+fits-other g ss i slots there fits new j = chosen (eqb j i) refl
+  where
+    chosen : (b : Bool) → eqb j i ≡ b → SlotsFit (getD (set ss i slots) j [])
+    chosen true e = rw (eqb-true j i e, slots-here g ss i slots there) new
+    chosen false e = rw (slots-other g ss i slots there j (eqb-false j i e)) (fits .slots j)
 
+pub level-replaced-fits : (g : Geometry) (ss : List (List Slot)) (i : ℕ) (slots : List Slot) → Fits g ss → 1 ≤ i → i < g .levels → pagesFor (length slots) ≤ room g i →
+    SlotsFit slots → Fits g (set ss i slots)
+level-replaced-fits g ss i slots fits l u few new = record {
+  levels = length-set ss i slots ∙ fits .levels;
+  head = rw (slots-other g ss i slots there 0 (λ e. omega (arith, e))) (fits .head);
+  rooms = λ j a b. chosen j a b (eqb j i) refl;
+  slots = fits-other g ss i slots there fits new;
+}
+  where
+    there : i < length ss
+    there = omega (arith, fits .levels)
+
+    chosen : (j : ℕ) → 1 ≤ j → j < g .levels → (b : Bool) → eqb j i ≡ b → pagesFor (length (getD (set ss i slots) j [])) ≤ room g j
+    chosen j a b true e = rw (eqb-true j i e, slots-here g ss i slots there) few
+    chosen j a b false e = rw (slots-other g ss i slots there j (eqb-false j i e)) (fits .rooms j a b)
+
+pub head-replaced-fits : (g : Geometry) (ss : List (List Slot)) (slots : List Slot) → InRange g → Fits g ss → length slots ≤ headRoom g → SlotsFit slots →
+    Fits g (set ss 0 slots)
+head-replaced-fits g ss slots fit fits few new = record {
+  levels = length-set ss 0 slots ∙ fits .levels;
+  head = rw (slots-here g ss 0 slots there) few;
+  rooms = λ j a b. rw (slots-other g ss 0 slots there j (λ e. omega (arith, e))) (fits .rooms j a b);
+  slots = fits-other g ss 0 slots there fits new;
+}
+  where
+    there : 0 < length ss
+    there = omega (arith, fits .levels, fit .levels-least)
+
+-- What stands after words are stored behind the directory, and one word in it: each part that they do not reach is as it was.
+record After (w : List ℕ) (at : ℕ) (vs : List ℕ) (word n : ℕ) (now : List ℕ) : Type 0 where
+  whole : length now ≡ length w
+  front : take 9 now ≡ set (take 9 w) word n
+  before : (a k : ℕ) → 9 ≤ a → a + k ≤ at → take k (drop a now) ≡ take k (drop a w)
+  behind : (a k : ℕ) → at + length vs ≤ a → take k (drop a now) ≡ take k (drop a w)
+  here : take (length vs) (drop at now) ≡ vs
+
+stored-after : (w : List ℕ) (at : ℕ) (vs : List ℕ) (word n : ℕ) → word < 9 → 9 ≤ at → at + length vs ≤ length w → After w at vs word n (set (sets w at vs) word n)
+stored-after w at vs word n f b h = record {
+  whole = length-set (sets w at vs) word n ∙ length-sets w at vs;
+  front = take-set-lt 9 (sets w at vs) word n f ∙ ap (λ (l : List ℕ). set l word n) (part-before w at vs 0 9 b);
+  before = λ a k l u. past a k l ∙ part-before w at vs a k u;
+  behind = λ a k l. past a k (omega arith) ∙ part-behind w at vs a k l;
+  here = past at (length vs) b ∙ part-stored w at vs h;
+}
+  where
+    past : (a k : ℕ) → 9 ≤ a → take k (drop a (set (sets w at vs) word n)) ≡ take k (drop a (sets w at vs))
+    past a k l = part-behind (sets w at vs) word (n ∷ []) a k (omega arith)
+
+module _ (g : Geometry) (live : ℕ) (ss : List (List Slot)) (fit : InRange g) (fits : Fits g ss) where
+  laid : Parts g live ss (laidOut g live ss)
+  laid = laid-parts g live ss fit (fits .head)
+
+  -- The slots of level i replaced, and its page count.
   pub level-replaced : (i : ℕ) (slots : List Slot) → 1 ≤ i → i < g .levels →
       sets (sets (laidOut g live ss) (levelStart g i) (levelWords slots (room g i))) (pagesWord i) (pagesFor (length slots) ∷ []) ≡ laidOut g live (set ss i slots)
-  level-replaced i slots l u = parts-laid g live (set ss i slots) fit w₂ (record { whole = whole; front = front; head = head; levels = levels })
+  level-replaced i slots l u = parts-laid g live (set ss i slots) fit now (record {
+    whole = stored .whole ∙ laid .whole;
+    front = stored .front ∙ rw (laid .front) (directory-level g live ss i slots there l u (omega (arith, fit .levels-most)));
+    head =
+        stored .before 9 (3 * headRoom g) (omega arith) (head-before g i) ∙ laid .head ∙
+        ap (λ (s : List Slot). runWords s (headRoom g)) (sym (slots-other g ss i slots there 0 (λ e. omega (arith, e))));
+    levels = λ j a b. chosen j a b (eqb j i) refl;
+  })
     where
-      there : i < length ss
-      there = omega (arith, fits .levels)
-
-      w₀ : List ℕ
-      w₀ = laidOut g live ss
-
       vs : List ℕ
       vs = levelWords slots (room g i)
 
-      w₁ : List ℕ
-      w₁ = sets w₀ (levelStart g i) vs
+      now : List ℕ
+      now = set (sets (laidOut g live ss) (levelStart g i) vs) (pagesWord i) (pagesFor (length slots))
 
-      w₂ : List ℕ
-      w₂ = set w₁ (pagesWord i) (pagesFor (length slots))
+      there : i < length ss
+      there = omega (arith, fits .levels)
 
-      whole : length w₂ ≡ storeWords g
-      whole = length-set w₁ (pagesWord i) (pagesFor (length slots)) ∙ length-sets w₀ (levelStart g i) vs ∙ before .whole
+      reach : length vs ≡ 64 * room g i
+      reach = level-words slots (room g i)
 
-      -- Behind the directory, and before or behind the level, words stay.
-      past : (a k : ℕ) → 9 ≤ a → take k (drop a w₂) ≡ take k (drop a w₁)
-      past a k h = part-behind w₁ (pagesWord i) (pagesFor (length slots) ∷ []) a k (omega (arith, fit .levels-most))
+      stored : After (laidOut g live ss) (levelStart g i) vs (pagesWord i) (pagesFor (length slots)) now
+      stored =
+          stored-after (laidOut g live ss) (levelStart g i) vs (pagesWord i) (pagesFor (length slots)) (omega (arith, fit .levels-most)) (omega (arith, head-before g i))
+          (omega (arith, reach, laid .whole, level-after g i, level-inside g i (omega (arith, fit .levels-most))))
 
-      front : take 9 w₂ ≡ directory g live (set ss i slots)
-      front =
-          take-set-lt 9 w₁ (pagesWord i) (pagesFor (length slots)) (omega (arith, fit .levels-most)) ∙
-          rw (part-before w₀ (levelStart g i) vs 0 9 (omega (arith, head-before g i)), before .front)
-          (directory-level g live ss i slots there l u (omega (arith, fit .levels-most)))
+      other : (j : ℕ) → j ≢ i → (t : Bool) → ltb j i ≡ t →
+          take (64 * room g j) (drop (levelStart g j) now) ≡ take (64 * room g j) (drop (levelStart g j) (laidOut g live ss))
+      other j d true t = stored .before (levelStart g j) (64 * room g j) (omega (arith, head-before g j)) (level-before g j i (ltb-true j i t))
+      other j d false t = stored .behind (levelStart g j) (64 * room g j) (omega (arith, reach, level-before g i j (omega (arith, ltb-false j i t))))
 
-      head : take (3 * headRoom g) (drop 9 w₂) ≡ runWords (getD (set ss i slots) 0 []) (headRoom g)
-      head =
-          past 9 (3 * headRoom g) (omega arith) ∙ part-before w₀ (levelStart g i) vs 9 (3 * headRoom g) (head-before g i) ∙ before .head ∙
-          ap (λ (s : List Slot). runWords s (headRoom g)) (sym (slots-other g ss i slots there 0 (λ e. omega (arith, e))))
-
-      levels : (j : ℕ) → 1 ≤ j → j < g .levels → take (64 * room g j) (drop (levelStart g j) w₂) ≡ levelWords (getD (set ss i slots) j []) (room g j)
-      levels j a b = past (levelStart g j) (64 * room g j) (omega (arith, head-before g j)) ∙ chosen (eqb j i) refl
-        where
-          other : j ≢ i → (t : Bool) → ltb j i ≡ t → take (64 * room g j) (drop (levelStart g j) w₁) ≡ take (64 * room g j) (drop (levelStart g j) w₀)
-          other d true t = part-before w₀ (levelStart g i) vs (levelStart g j) (64 * room g j) (level-before g j i (ltb-true j i t))
-          other d false t =
-              part-behind w₀ (levelStart g i) vs (levelStart g j) (64 * room g j)
-              (omega (arith, level-words slots (room g i), level-before g i j (omega (arith, ltb-false j i t))))
-
-          chosen : (t : Bool) → eqb j i ≡ t → take (64 * room g j) (drop (levelStart g j) w₁) ≡ levelWords (getD (set ss i slots) j []) (room g j)
-          chosen true t =
-              let e : j ≡ i = eqb-true j i t in
-              let c : length vs ≡ 64 * room g i = level-words slots (room g i) in
-              let here : take (length vs) (drop (levelStart g i) w₁) ≡ vs =
-              part-stored w₀ (levelStart g i) vs (omega (arith, before .whole, level-after g i, level-inside g i (omega (arith, fit .levels-most)))) in
-              rw (e, slots-here g ss i slots there) (rw c at here)
-          chosen false t =
-              let d : j ≢ i = eqb-false j i t in
-              other d (ltb j i) refl ∙ before .levels j a b ∙ ap (λ (s : List Slot). levelWords s (room g j)) (sym (slots-other g ss i slots there j d))
+      chosen : (j : ℕ) → 1 ≤ j → j < g .levels → (t : Bool) → eqb j i ≡ t →
+          take (64 * room g j) (drop (levelStart g j) now) ≡ levelWords (getD (set ss i slots) j []) (room g j)
+      chosen j a b true t = rw (eqb-true j i t, slots-here g ss i slots there) (rw reach at (stored .here))
+      chosen j a b false t =
+          let d : j ≢ i = eqb-false j i t in
+          other j d (ltb j i) refl ∙ laid .levels j a b ∙ ap (λ (s : List Slot). levelWords s (room g j)) (sym (slots-other g ss i slots there j d))
 
   -- The slots of the head replaced, and their count.
   pub head-replaced : (slots : List Slot) → length slots ≤ headRoom g →
       sets (sets (laidOut g live ss) headStart (runWords slots (headRoom g))) headCountWord (length slots ∷ []) ≡ laidOut g live (set ss 0 slots)
-  head-replaced slots h = parts-laid g live (set ss 0 slots) fit w₂ (record { whole = whole; front = front; head = head; levels = levels })
+  head-replaced slots h = parts-laid g live (set ss 0 slots) fit now (record {
+    whole = stored .whole ∙ laid .whole;
+    front = stored .front ∙ rw (laid .front) (directory-head g live ss slots there);
+    head = (rw reach at (stored .here)) ∙ ap (λ (s : List Slot). runWords s (headRoom g)) (sym (slots-here g ss 0 slots there));
+    levels = λ j a b.
+        stored .behind (levelStart g j) (64 * room g j) (omega (arith, reach, head-before g j)) ∙ laid .levels j a b ∙
+        ap (λ (s : List Slot). levelWords s (room g j)) (sym (slots-other g ss 0 slots there j (λ e. omega (arith, e))));
+  })
     where
-      there : 0 < length ss
-      there = omega (arith, fits .levels, fit .levels-least)
-
-      w₀ : List ℕ
-      w₀ = laidOut g live ss
-
       vs : List ℕ
       vs = runWords slots (headRoom g)
+
+      now : List ℕ
+      now = set (sets (laidOut g live ss) headStart vs) headCountWord (length slots)
+
+      there : 0 < length ss
+      there = omega (arith, fits .levels, fit .levels-least)
 
       reach : length vs ≡ 3 * headRoom g
       reach = run-words slots (headRoom g) h
 
-      w₁ : List ℕ
-      w₁ = sets w₀ headStart vs
-
-      w₂ : List ℕ
-      w₂ = set w₁ headCountWord (length slots)
-
-      whole : length w₂ ≡ storeWords g
-      whole = length-set w₁ headCountWord (length slots) ∙ length-sets w₀ headStart vs ∙ before .whole
-
-      past : (a k : ℕ) → 9 ≤ a → take k (drop a w₂) ≡ take k (drop a w₁)
-      past a k h = part-behind w₁ headCountWord (length slots ∷ []) a k h
-
-      front : take 9 w₂ ≡ directory g live (set ss 0 slots)
-      front =
-          take-set-lt 9 w₁ headCountWord (length slots) (omega arith) ∙
-          rw (part-before w₀ headStart vs 0 9 (omega arith), before .front) (directory-head g live ss slots there)
-
-      head : take (3 * headRoom g) (drop 9 w₂) ≡ runWords (getD (set ss 0 slots) 0 []) (headRoom g)
-      head =
-          let here : take (length vs) (drop 9 w₁) ≡ vs =
-          part-stored w₀ headStart vs (omega (arith, reach, before .whole, head-before g 1, level-inside g 0 (omega arith))) in
-          past 9 (3 * headRoom g) (omega arith) ∙ (rw reach at here) ∙ ap (λ (s : List Slot). runWords s (headRoom g)) (sym (slots-here g ss 0 slots there))
-
-      levels : (j : ℕ) → 1 ≤ j → j < g .levels → take (64 * room g j) (drop (levelStart g j) w₂) ≡ levelWords (getD (set ss 0 slots) j []) (room g j)
-      levels j a b =
-          past (levelStart g j) (64 * room g j) (omega (arith, head-before g j)) ∙
-          part-behind w₀ headStart vs (levelStart g j) (64 * room g j) (omega (arith, reach, head-before g j)) ∙ before .levels j a b ∙
-          ap (λ (s : List Slot). levelWords s (room g j)) (sym (slots-other g ss 0 slots there j (λ e. omega (arith, e))))
+      stored : After (laidOut g live ss) headStart vs headCountWord (length slots) now
+      stored =
+          stored-after (laidOut g live ss) headStart vs headCountWord (length slots) (omega arith) (omega arith)
+          (omega (arith, reach, laid .whole, head-before g 1, level-inside g 0 (omega arith)))

@@ -1,6 +1,6 @@
 -- A part of a list after a run of stores: as it was where the run does not reach, and the run where it stands. One store is a run of one:
 -- `set l i v` is `sets l i (v ∷ [])` by definition. Assumes nothing.
-use Prim.Native.Nat.{ℕ, zero, suc, _+_, _≤_, _<_}
+use Prim.Native.Nat.{ℕ, zero, suc, _+_, _≤_}
 use native.Mathlib.Nat.{zero-add, suc-add}
 use native.Mathlib.Omega.{arith}
 use mathlib.Core.Path.{_≡_, refl, sym, ap, _∙_}

@@ -11,7 +11,7 @@ use Rattle.laws.specs.Lists.{span, all}
 use Rattle.laws.specs.Flat.{all-first, all-rest}
 use Rattle.slot.specs.declared.Pair.{Pair}
 use Rattle.slot.specs.declared.Slot.{Slot}
-use Rattle.slot.specs.declared.Kind.the-variants.{Normal, Filter, External, Internal}
+use Rattle.slot.specs.declared.Kind.the-variants.{Normal, Filter}
 use Rattle.slot.specs.Pair.{before}
 use Rattle.rules.specs.Tree.{Entry, Level, Tree, level}
 use Rattle.rules.specs.Level.{index, external, internal, fenceKind, pagesFor, firstOf, fenceOf, fences, place, weave, paged, over, layOn, laid, headOn, slotsOf}
@@ -102,7 +102,7 @@ fences-all first i zero = refl
 fences-all first zero (suc n) = fences-all first 1 n
 fences-all first (suc i) (suc n) = fences-all first (suc (suc i)) n
 
-pub over-entries : (es : Level) (below : List Slot) → entriesOf (over es below) ≡ es
+over-entries : (es : Level) (below : List Slot) → entriesOf (over es below) ≡ es
 unfolding over fences
 over-entries es below = weave-entries es (fences (firstOf below) (pagesFor (length below))) (fences-all (firstOf below) 0 (pagesFor (length below)))
 
@@ -116,7 +116,7 @@ laid-entries (es ∷ lower) = chosen (laid lower) (laid-entries lower)
     chosen [] e = let h = index-entries es in cc
     chosen (below ∷ ss) e = let h = paged-entries 0 0 (over es below) ∙ over-entries es below in cc
 
-pub slots-entries : (t : Tree) → map entriesOf (slotsOf t) ≡ t
+slots-entries : (t : Tree) → map entriesOf (slotsOf t) ≡ t
 unfolding slotsOf headOn
 slots-entries [] = refl
 slots-entries (es ∷ lower) = chosen (laid lower) (laid-entries lower)
