@@ -12,7 +12,7 @@ use lib.Dec.{ltb, eqb}
 use borrow.Author.Tests.{ltb-true, ltb-false, eqb-true, eqb-false}
 use Rattle.geometry.specs.declared.Geometry.{Geometry}
 use Rattle.geometry.specs.Geometry.{InRange, room}
-use Rattle.geometry.specs.Places.{liveWord, pagesWord, headCountWord, headStart, headRoom, levelStart, storeWords}
+use Rattle.geometry.specs.Places.{liveWord, pagesWord, headCountWord, headStart, headRoom, levelStart}
 use Rattle.geometry.specs.Apart.{level-after, level-before, level-inside}
 use Rattle.slot.specs.declared.Slot.{Slot}
 use Rattle.rules.specs.Level.{pagesFor}
