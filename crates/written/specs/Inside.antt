@@ -27,7 +27,7 @@ module _ (g : Geometry) (w : List ℕ) (fit : InRange g) (right : directoryRight
       let three = all (pagesRight g w) (1 ∷ 2 ∷ 3 ∷ []) in
       and-right live three (and-left (live && three) (eqb (getD w reservedWord 0) 0) right)
 
-  pages-right : (i : ℕ) → 1 ≤ i → i ≤ 3 → pagesRight g w i ≡ true
+  pub pages-right : (i : ℕ) → 1 ≤ i → i ≤ 3 → pagesRight g w i ≡ true
   pages-right zero l u = absurd (omega arith)
   pages-right (suc zero) l u = all-first (pagesRight g w) 1 (2 ∷ 3 ∷ []) three-right
   pages-right (suc (suc zero)) l u = all-first (pagesRight g w) 2 (3 ∷ []) (all-rest (pagesRight g w) 1 (2 ∷ 3 ∷ []) three-right)

@@ -31,7 +31,7 @@ flatSlot w start n = slotAt w (start + 64 * (n / 21) + 1 + 3 * (n % 21))
 unfoldable pub levelPage : List Slot → ℕ → List ℕ
 levelPage slots p = elim (ltb p (pagesFor (length slots))) [ true ↦ pageWords (pageOf slots p) | false ↦ replicate 64 erased ]
 
-level-pages : (slots : List Slot) (n : ℕ) → levelWords slots n ≡ concat (span (levelPage slots) 0 n)
+pub level-pages : (slots : List Slot) (n : ℕ) → levelWords slots n ≡ concat (span (levelPage slots) 0 n)
 unfolding levelWords levelPage
 level-pages slots n = refl
 
@@ -51,7 +51,7 @@ page-length slots p = length-take 21 (drop (21 * p) slots) ∙ ap (min 21) (leng
 page-most : (slots : List Slot) (p : ℕ) → length (pageOf slots p) ≤ 21
 page-most slots p = omega (arith, page-length slots p)
 
-level-page-length : (slots : List Slot) (p : ℕ) → length (levelPage slots p) ≡ 64
+pub level-page-length : (slots : List Slot) (p : ℕ) → length (levelPage slots p) ≡ 64
 unfolding levelPage pageWords runWords
 level-page-length slots p = chosen (ltb p (pagesFor (length slots)))
   where
@@ -279,14 +279,14 @@ module _ (w : List ℕ) (start room pages : ℕ) (inside : start + 64 * room ≤
     page-words p b =
         sym (page-split w (start + 64 * p) (omega arith)) ∙ page-stands slots counted written p (omega arith) ∙ page-used slots p (rw counted b)
 
-    count-read : (p : ℕ) → p < pages → countOf w start p ≡ length (pageOf slots p)
+    pub count-read : (p : ℕ) → p < pages → countOf w start p ≡ length (pageOf slots p)
     unfolding countOf
     count-read p b = let h = page-words p b in cc
 
     run-read : (p : ℕ) → p < pages → take (3 * 21) (drop (start + 64 * p + 1) w) ≡ runWords (pageOf slots p) 21
     run-read p b = let h = page-words p b in cc
 
-    page-read : (p : ℕ) → p < pages → pageRun w start p ≡ pageOf slots p
+    pub page-read : (p : ℕ) → p < pages → pageRun w start p ≡ pageOf slots p
     unfolding pageRun
     page-read p b =
         let c = count-read p b in

@@ -1,0 +1,122 @@
+-- A store that is laid out in slots, part by part: how long it is, where the head's slots and each level's pages stand in it, and that
+-- words with the same parts are that store. Assumes nothing.
+use Prim.Native.Nat.{ℕ, zero, suc, _+_, _-_, _*_, _≤_, _<_}
+use native.Mathlib.Nat.{zero-add, suc-add}
+use native.Mathlib.Omega.{arith}
+use mathlib.Core.Path.{_≡_, refl, sym, ap, _∙_}
+use mathlib.Core.List.{List, [], _++_, append-assoc}
+use lib.ListN.{length, getD, take, drop, replicate, length-append, length-replicate, take-append-drop}
+use lib.Seq.{take-at, drop-drop}
+use borrow.Author.Tests.{lt-ltb, le-ltb}
+use Rattle.laws.specs.Lists.{span, concat}
+use Rattle.geometry.specs.declared.Geometry.{Geometry}
+use Rattle.geometry.specs.Geometry.{InRange, bottom, room}
+use Rattle.geometry.specs.Places.{erased, headStart, headRoom, levelStart, storeWords}
+use Rattle.geometry.specs.Bounds.{room-none}
+use Rattle.geometry.specs.Apart.{level-one, level-after}
+use Rattle.slot.specs.declared.Slot.{Slot}
+use Rattle.rules.specs.Level.{pagesFor}
+use Rattle.rules.specs.Store.{runWords, levelWords, pageCount, directory, laidOut}
+use Rattle.written.specs.Run.{wordsOfAll, words-length}
+use Rattle.written.specs.Pages.{levelPage, level-pages, level-page-length}
+use Rattle.stored.specs.Joined.{joined-length, joined-part, parts-joined}
+
+-- The words of a run of slots fill its room, where the slots do not pass it, and those of a level its room.
+pub run-words : (slots : List Slot) (n : ℕ) → length slots ≤ n → length (runWords slots n) ≡ 3 * n
+unfolding runWords
+run-words slots n h =
+    length-append (wordsOfAll slots) (replicate (3 * (n - length slots)) erased) ∙
+    omega (arith, words-length slots, length-replicate (3 * (n - length slots)) erased)
+
+pub level-words : (slots : List Slot) (n : ℕ) → length (levelWords slots n) ≡ 64 * n
+level-words slots n =
+    rw (level-pages slots n) (rw (zero-add n, zero-add) at (joined-length (levelPage slots) (λ p. 64 * p) (λ p. omega (arith, level-page-length slots p)) 0 n))
+
+-- The page count of a level, and of one that does not exist.
+pub page-count : (g : Geometry) (ss : List (List Slot)) (i : ℕ) → i < g .levels → pageCount g ss i ≡ pagesFor (length (getD ss i []))
+unfolding pageCount
+page-count g ss i h = rw (lt-ltb i (g .levels) h, pageCount)
+
+pub no-page-count : (g : Geometry) (ss : List (List Slot)) (i : ℕ) → g .levels ≤ i → pageCount g ss i ≡ 0
+unfolding pageCount
+no-page-count g ss i h = rw (le-ltb i (g .levels) h, pageCount)
+
+-- Behind the bottom there is no more room: the store ends there.
+levels-end : (g : Geometry) (n : ℕ) → levelStart g (n + g .levels) ≡ levelStart g (g .levels)
+levels-end g zero = rw (zero-add (g .levels)) refl
+levels-end g (suc n) = rw (suc-add n (g .levels)) (omega (arith, level-after g (n + g .levels), room-none g (n + g .levels) (omega arith), levels-end g n))
+
+store-end : (g : Geometry) → InRange g → levelStart g (g .levels) ≡ storeWords g
+unfolding storeWords
+store-end g fit =
+    let e : 4 - g .levels + g .levels ≡ 4 = omega (arith, fit .levels-most) in
+    sym (levels-end g (4 - g .levels)) ∙ ap (levelStart g) e
+
+head-end : (g : Geometry) → levelStart g 1 ≡ 9 + 3 * headRoom g
+unfolding headRoom
+head-end g = sym (level-one g)
+
+-- Words whose directory, head and levels are those of slots.
+pub record Parts (g : Geometry) (live : ℕ) (ss : List (List Slot)) (w : List ℕ) : Type 0 where
+  pub whole : length w ≡ storeWords g
+  pub front : take 9 w ≡ directory g live ss
+  pub head : take (3 * headRoom g) (drop headStart w) ≡ runWords (getD ss 0 []) (headRoom g)
+  pub levels : (i : ℕ) → 1 ≤ i → i < g .levels → take (64 * room g i) (drop (levelStart g i) w) ≡ levelWords (getD ss i []) (room g i)
+
+module _ (g : Geometry) (live : ℕ) (ss : List (List Slot)) (fit : InRange g) where
+  -- The words of level i, and where the next level starts.
+  abbrev ofLevel : ℕ → List ℕ
+  ofLevel i = levelWords (getD ss i []) (room g i)
+
+  next-level : (i : ℕ) → levelStart g (suc i) ≡ levelStart g i + length (ofLevel i)
+  next-level i = omega (arith, level-after g i, level-words (getD ss i []) (room g i))
+
+  levels-counted : 1 + bottom g ≡ g .levels
+  levels-counted = omega (arith, fit .levels-least)
+
+  -- They are the store that is laid out in those slots.
+  pub parts-laid : (w : List ℕ) → Parts g live ss w → w ≡ laidOut g live ss
+  unfolding laidOut
+  parts-laid w p =
+      let rest : drop (levelStart g 1) w ≡ concat (span ofLevel 1 (bottom g)) =
+      parts-joined ofLevel (levelStart g) next-level w 1 (bottom g) (rw levels-counted (p .whole ∙ sym (store-end g fit)))
+      (λ j l u. rw (level-words (getD ss j []) (room g j)) (p .levels j l (omega (arith, levels-counted)))) in
+      sym (take-append-drop 9 w) ∙
+      rw (p .front, ← take-append-drop (3 * headRoom g) (drop 9 w), p .head, drop-drop (3 * headRoom g) 9 w, ← head-end g, rest) refl
+
+  -- And that store has them, where its head has room.
+  module _ (head-fits : length (getD ss 0 []) ≤ headRoom g) where
+    abbrev w : List ℕ
+    w = laidOut g live ss
+
+    abbrev ofHead : List ℕ
+    ofHead = runWords (getD ss 0 []) (headRoom g)
+
+    abbrev ofLevels : List ℕ
+    ofLevels = concat (span ofLevel 1 (bottom g))
+
+    ahead : length (directory g live ss ++ ofHead) ≡ levelStart g 1
+    unfolding directory
+    ahead = omega (arith, run-words (getD ss 0 []) (headRoom g) head-fits, head-end g)
+
+    laid-split : w ≡ directory g live ss ++ ofHead ++ ofLevels
+    unfolding laidOut
+    laid-split = sym (append-assoc (directory g live ss) ofHead ofLevels)
+
+    pub laid-length : length w ≡ storeWords g
+    laid-length =
+        ap length laid-split ∙ length-append (directory g live ss ++ ofHead) ofLevels ∙ rw ahead (joined-length ofLevel (levelStart g) next-level 1 (bottom g)) ∙
+        ap (levelStart g) levels-counted ∙ store-end g fit
+
+    pub head-part : take (3 * headRoom g) (drop headStart w) ≡ runWords (getD ss 0 []) (headRoom g)
+    unfolding laidOut directory
+    head-part = take-at ofHead ofLevels (3 * headRoom g) (run-words (getD ss 0 []) (headRoom g) head-fits)
+
+    pub level-part : (i : ℕ) → 1 ≤ i → i < g .levels → take (64 * room g i) (drop (levelStart g i) w) ≡ levelWords (getD ss i []) (room g i)
+    level-part i l u =
+        rw (laid-split, ← level-words (getD ss i []) (room g i))
+        (joined-part ofLevel (levelStart g) next-level (directory g live ss ++ ofHead) 1 (bottom g) i ahead l (omega (arith, levels-counted)))
+
+    pub laid-parts : Parts g live ss (laidOut g live ss)
+    unfolding laidOut directory
+    laid-parts = record { whole = laid-length; front = refl; head = head-part; levels = level-part }
