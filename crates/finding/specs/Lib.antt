@@ -1,0 +1,2 @@
+-- The walk finds what the tree holds. Read top to bottom.
+pub mod Rising
