@@ -1,2 +1,4 @@
 -- The walk finds what the tree holds. Read top to bottom.
+pub mod Tests
 pub mod Rising
+pub mod Woven
