@@ -2,3 +2,4 @@
 pub mod Tests
 pub mod Rising
 pub mod Woven
+pub mod Paged
