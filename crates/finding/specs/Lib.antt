@@ -3,3 +3,5 @@ pub mod Tests
 pub mod Rising
 pub mod Woven
 pub mod Paged
+pub mod Rows
+pub mod Formed

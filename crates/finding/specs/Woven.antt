@@ -109,17 +109,21 @@ entries-woven =
     (λ e es f fs row c ih a. entries-fence f row (all-first fence f fs a) ∙ ih (all-rest fence f fs a))
 
 -- So are the fences.
-pub fence-pages-woven : (es : Level) (fs : List Slot) → all fence fs ≡ true → fencePages (weave es fs) ≡ fencePages fs
+pub pages-fence : (s : Slot) (ss : List Slot) → fence s ≡ true → fencePages (s ∷ ss) ≡ s .page .0 ∷ fencePages ss
 unfolding fencePages
+pages-fence s ss e = rw (passing-yes fence s ss e)
+
+pages-index : (e : Entry) (ss : List Slot) → fencePages (index e ∷ ss) ≡ fencePages ss
+unfolding fencePages
+pages-index e ss = rw (passing-no fence (index e) ss (index-entry e))
+
+pub fence-pages-woven : (es : Level) (fs : List Slot) → all fence fs ≡ true → fencePages (weave es fs) ≡ fencePages fs
 fence-pages-woven =
     by-weaving (λ es fs row. all fence fs ≡ true → fencePages row ≡ fencePages fs) (λ fs a. refl)
-    (λ e es fs row c ih a. ap pagesIn (passing-no fence (index e) row (index-entry e)) ∙ ih a)
+    (λ e es fs row c ih a. pages-index e row ∙ ih a)
     (λ e es f fs row c ih a.
     let k = all-first fence f fs a in
-    ap pagesIn (passing-yes fence f row k) ∙ ap (λ (l : List ℕ). f .page .0 ∷ l) (ih (all-rest fence f fs a)) ∙ sym (ap pagesIn (passing-yes fence f fs k)))
-  where
-    pagesIn : List Slot → List ℕ
-    pagesIn = map (λ s. s .page .0)
+    pages-fence f row k ∙ ap (λ (l : List ℕ). f .page .0 ∷ l) (ih (all-rest fence f fs a)) ∙ sym (pages-fence f fs k))
 
 -- Ascending entries' weights rise, and so do those of a row that is woven with rising fences.
 rising-from : (n : ℕ) (es : Level) → From n es → Rising (3 * n) (map index es)
