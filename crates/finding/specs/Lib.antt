@@ -5,3 +5,4 @@ pub mod Woven
 pub mod Paged
 pub mod Rows
 pub mod Formed
+pub mod Telling
