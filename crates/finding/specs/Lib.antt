@@ -6,3 +6,4 @@ pub mod Paged
 pub mod Rows
 pub mod Formed
 pub mod Telling
+pub mod RowTold
