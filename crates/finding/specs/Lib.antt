@@ -7,3 +7,4 @@ pub mod Rows
 pub mod Formed
 pub mod Telling
 pub mod RowTold
+pub mod PageTold
