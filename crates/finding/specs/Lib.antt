@@ -8,3 +8,4 @@ pub mod Formed
 pub mod Telling
 pub mod RowTold
 pub mod PageTold
+pub mod Asked

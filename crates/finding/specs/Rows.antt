@@ -55,10 +55,6 @@ unfolding headOn over fencesOver
 head-row es [] = weave-alone es
 head-row es (below ∷ ss) = refl
 
-pub slots-row : (es : Level) (t : Tree) → slotsOf (es ∷ t) ≡ weave es (fencesOver (laid t)) ∷ laid t
-unfolding slotsOf
-slots-row es t = ap (λ (l : List Slot). l ∷ laid t) (head-row es (laid t))
-
 -- Pages are as many as the slots need, and one at least.
 pub pages-some : (n : ℕ) → 1 ≤ pagesFor n
 unfolding pagesFor
@@ -194,15 +190,15 @@ pub least-fence-first : (ss : List Slot) → firstIsLeast (external least 0 ∷ 
 unfolding firstIsLeast external
 least-fence-first ss = level-same least least refl
 
-row-row : (es : Level) (ss : List (List Slot)) → ascending es ≡ true → Rows ss → Row (pagesUnder ss) (rowOn es ss)
+pub row-formed : (es : Level) (ss : List (List Slot)) → ascending es ≡ true → Rows ss → Row (pagesUnder ss) (rowOn es ss)
 unfolding rowOn pagesUnder
-row-row es [] a r = record {
+row-formed es [] a r = record {
   rising = woven-rising es [] a r;
   tags = all-woven (legal true 0) (λ e. index-legal e true 0) es (fencesOver []) bottom-legal;
   first-least = λ h. absurd (omega arith);
   opens = λ h. absurd (omega arith);
 }
-row-row es (below ∷ ss) a r =
+row-formed es (below ∷ ss) a r =
     let pages = pagesFor (length below) in
     let row = weave es (fencesOver (below ∷ ss)) in
     record {
@@ -223,7 +219,7 @@ unfolding Rows laid
 laid-rows [] a = tt
 laid-rows (es ∷ t) a =
     let lower = laid-rows t (all-rest ascending es t a) in
-    rw (lay-row es (laid t)) (row-row es (laid t) (all-first ascending es t a) lower, lower)
+    rw (lay-row es (laid t)) (row-formed es (laid t) (all-first ascending es t a) lower, lower)
 
 -- So is every lower level of a tree; the head is woven over them.
 pub head-woven : (t : Tree) → getD (slotsOf t) 0 [] ≡ weave (level 0 t) (fencesOver (drop 1 (slotsOf t)))
