@@ -91,7 +91,7 @@ module _ (g : Geometry) (s : State) (w : List ℕ) (fit : InRange g) (good : Goo
   rows : Rows lower
   rows = lower-rows (s .tree) (good .ascends)
 
-  head-read : headSlots g w ≡ headRow
+  pub head-read : headSlots g w ≡ headRow
   head-read = reads .head-slots ∙ head-woven (s .tree)
 
   head-fits : leb (getD w headCountWord 0) (headRoom g) ≡ true

@@ -9,3 +9,4 @@ pub mod Telling
 pub mod RowTold
 pub mod PageTold
 pub mod Asked
+pub mod Walked

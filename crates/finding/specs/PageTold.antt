@@ -8,20 +8,21 @@ use lib.ListN.{length, getD, take, drop, take-append-drop, drop-of-length-le}
 use lib.Seq.{drop-cons, drop-drop, split-at}
 use lib.Dec.{ltb, eqb}
 use borrow.Author.Tests.{ltb-true, ltb-false}
+use Rattle.laws.specs.Tests.{and-right}
 use Rattle.laws.specs.Lists.{all}
 use Rattle.laws.specs.Flat.{all-first, all-rest}
 use Rattle.slot.specs.declared.Pair.{Pair}
 use Rattle.slot.specs.declared.Slot.{Slot}
-use Rattle.slot.specs.Pair.{rank, least, before, same}
+use Rattle.slot.specs.Pair.{rank, least, before, same, none-before-least}
 use Rattle.slot.specs.Order.{before-below, not-before-above, same-level}
 use Rattle.page.specs.Told.{no-fence}
 use Rattle.rules.specs.Level.{external, pagesFor, pageOf, firstOf}
 use Rattle.rules.specs.Finding.{Told, decided, follow, nothing, tell}
-use Rattle.rules.specs.Sound.{legal}
+use Rattle.rules.specs.Sound.{legal, firstIsLeast, firstRight}
 use Rattle.finding.specs.Tests.{all-take}
 use Rattle.finding.specs.Rising.{weight, Rising, weight-least, weight-most, fence-weight, entry-weight, rising-take, rising-drop, rising-lower, rising-at}
 use Rattle.finding.specs.Woven.{fence}
-use Rattle.finding.specs.Rows.{Row, pages-inside, pages-reach}
+use Rattle.finding.specs.Rows.{Row, some-slot, pages-inside, pages-reach}
 use Rattle.finding.specs.Telling.{tellOn, by-slot, on-above, on-fence, on-entry, on-past, tell-forward}
 use Rattle.finding.specs.RowTold.{Leads}
 
@@ -73,6 +74,12 @@ module _ (p : Pair) where
   no-last-fence [] last a = refl
   no-last-fence (s ∷ ss) last a =
       rw (no-fence true s (all-first (legal true 0) s ss a), lastFence) (no-last-fence ss last (all-rest (legal true 0) s ss a))
+
+  -- The least fence is at most the pair.
+  least-at-most : (ss : List Slot) → firstIsLeast ss ≡ true → before p (firstOf ss 0) ≡ false
+  unfolding firstIsLeast firstOf
+  least-at-most [] e = absurd (let z : _≡_ {A = ℕ} 0 1 = cc in omega arith)
+  least-at-most (s ∷ ss) e = none-before-least p (s .pair) (and-right (fence s) (same least (s .pair)) e)
 
   module _ (below : ℕ) (slots : List Slot) (row : Row below slots) where
     -- From the first slot of a page on, where that is at most the pair.
@@ -131,3 +138,18 @@ module _ (p : Pair) where
           tell-forward p 0 (take 21 rest) (rising-take 21 0 rest (rising-drop (21 * led .page) 0 slots (row .rising))) ∙
           sym (tell-front (take 21 rest) (drop 21 rest) nothing above-next) ∙ ap (tellOn p nothing) (take-append-drop 21 rest) ∙ sym tell-rest ∙
           sym (tell-forward p 0 slots (row .rising))
+
+      -- Above the bottom it begins with a fence at most the pair.
+      first-at-most : 1 ≤ below → (21 * led .page < length slots) × (before p (firstOf slots (led .page)) ≡ false)
+      first-at-most some = counted (led .page) refl
+        where
+          counted : (q : ℕ) → led .page ≡ q → (21 * q < length slots) × (before p (firstOf slots q) ≡ false)
+          counted zero e = (some-slot slots (row .first-least some), least-at-most slots (row .first-least some))
+          counted (suc q) e =
+              (rw e at (pages-inside (length slots) (led .page) (omega arith) (led .within)), rw e at (led .starts (omega arith)))
+
+      pub page-first : 1 ≤ below → firstRight p (pageOf slots (led .page)) ≡ true
+      unfolding firstRight pageOf firstOf
+      page-first some =
+          let at = first-at-most some in
+          rw (drop-cons slots (21 * led .page) (external least 0) (at .0), row .opens some (led .page) (external least 0) (at .0), at .1)

@@ -17,7 +17,7 @@ use Rattle.slot.specs.Order.{above-not-before, level-same}
 use Rattle.rules.specs.Tree.{Level, Tree, level}
 use Rattle.rules.specs.Level.{index, external, pagesFor, firstOf, fenceOf, fences, place, weave, paged, over, layOn, laid, headOn, slotsOf}
 use Rattle.rules.specs.Sound.{fencePages, legal, firstIsLeast, ascending}
-use Rattle.finding.specs.Tests.{all-span}
+use Rattle.finding.specs.Tests.{all-drop, all-span}
 use Rattle.finding.specs.Rising.{weight, Rising, weight-least, weight-most, rising-at, rising-apart, rising-span}
 use Rattle.finding.specs.Woven.{fence, index-legal, pages-fence, all-woven, rising-entries, rising-woven}
 use Rattle.finding.specs.Paged.{legal-paged, rising-paged, fence-opens}
@@ -227,10 +227,13 @@ unfolding slotsOf weave fencesOver
 head-woven [] = refl
 head-woven (es ∷ t) = head-row es (laid t)
 
+pub lower-laid : (t : Tree) → drop 1 (slotsOf t) ≡ laid (drop 1 t)
+unfolding slotsOf laid
+lower-laid [] = refl
+lower-laid (es ∷ t) = refl
+
 pub lower-rows : (t : Tree) → all ascending t ≡ true → Rows (drop 1 (slotsOf t))
-unfolding slotsOf Rows
-lower-rows [] a = tt
-lower-rows (es ∷ t) a = laid-rows t (all-rest ascending es t a)
+lower-rows t a = rw (lower-laid t) (laid-rows (drop 1 t) (all-drop ascending 1 t a))
 
 -- The row of a level, by its number, and the pages of the level below it.
 row-at : (ss : List (List Slot)) (i : ℕ) → Rows ss → i < length ss → Row (pagesUnder (drop (suc i) ss)) (getD ss i [])
