@@ -1,8 +1,7 @@
 -- On the slots of a good tree the walk's answer is whether the topmost entry of the pair is normal, and its deciding level is that
 -- entry's. Assumes nothing.
-use Prim.Native.Nat.{ℕ, zero, suc, _+_}
-use native.Mathlib.Omega.{arith}
-use mathlib.Core.Path.{_≡_, refl, sym, ap, _∙_}
+use Prim.Native.Nat.{ℕ, suc}
+use mathlib.Core.Path.{_≡_, refl, sym, _∙_}
 use mathlib.Core.Bool.{Bool, true, false}
 use mathlib.Core.List.{List, [], _∷_}
 use lib.ListN.{length}
@@ -13,12 +12,13 @@ use Rattle.slot.specs.declared.Pair.{Pair}
 use Rattle.slot.specs.declared.Slot.{Slot}
 use Rattle.rules.specs.Tree.{Level, Tree}
 use Rattle.rules.specs.Level.{pagesFor, pageOf, firstOf, weave, laid, slotsOf}
-use Rattle.rules.specs.Finding.{Met, absent, met, find, held, Told, decided, follow, nothing, tell, Answer, walk, ask}
+use Rattle.rules.specs.Finding.{Met, absent, met, find, held, decided, follow, nothing, tell, Answer, walk, ask}
 use Rattle.rules.specs.Merging.{State}
 use Rattle.rules.specs.Sound.{ascending}
 use Rattle.rules.specs.Good.{Good}
 use Rattle.entries.specs.Ascending.{held-met, held-absent}
-use Rattle.finding.specs.Rows.{fencesOver, pagesUnder, rowOn, laid-row, head-row, woven-rising, row-formed, laid-rows}
+use Rattle.finding.specs.Fences.{fencesOver, pagesUnder}
+use Rattle.finding.specs.Rows.{rowOn, laid-row, head-row, woven-rising, row-formed, laid-rows}
 use Rattle.finding.specs.Telling.{tellOn, tell-forward}
 use Rattle.finding.specs.RowTold.{decide, tell-head, tell-row, Leads, fences-lead, no-fences-lead}
 use Rattle.finding.specs.PageTold.{page-tells}

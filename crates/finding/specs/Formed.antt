@@ -1,11 +1,11 @@
 -- The writing of a good state passes what put, drop and ask test: its directory, its head, and the page form of every page.
 -- Assumes nothing.
-use Prim.Native.Nat.{ℕ, zero, suc, _+_, _-_, _*_, _≤_, _<_, min}
+use Prim.Native.Nat.{ℕ, suc, _-_, _*_, _≤_, _<_, min}
 use native.Mathlib.Omega.{arith}
 use mathlib.Core.Path.{_≡_, refl, sym, ap, _∙_}
 use mathlib.Core.Logic.{_≢_}
 use mathlib.Core.Bool.{Bool, true, false, _&&_, _||_}
-use mathlib.Core.List.{List, [], _∷_}
+use mathlib.Core.List.{List, []}
 use lib.ListN.{length, getD, take, drop, length-take, length-drop}
 use lib.Seq.{drop-cons}
 use lib.Dec.{ltb, leb, eqb}
@@ -13,14 +13,14 @@ use borrow.Author.Tests.{le-leb, eq-eqb, ne-eqb, ltb-true, ltb-false, eqb-true, 
 use Rattle.laws.specs.Lists.{span, all, equal, all-three, all-at}
 use Rattle.laws.specs.Flat.{equal-refl}
 use Rattle.geometry.specs.declared.Geometry.{Geometry}
-use Rattle.geometry.specs.Geometry.{InRange, bottom, capacity, most, room}
-use Rattle.geometry.specs.Places.{liveWord, pagesWord, reservedWord, headCountWord, headRoom}
+use Rattle.geometry.specs.Geometry.{InRange, bottom, most, room}
+use Rattle.geometry.specs.Places.{pagesWord, headCountWord, headRoom}
 use Rattle.geometry.specs.Bounds.{capacity-zero}
 use Rattle.slot.specs.declared.Slot.{Slot}
-use Rattle.rules.specs.Tree.{Level, Tree, level}
+use Rattle.rules.specs.Tree.{level}
 use Rattle.rules.specs.Level.{pagesFor, pageOf, weave, slotsOf}
 use Rattle.rules.specs.Merging.{State}
-use Rattle.rules.specs.Sound.{pagesOf, headSlots, countAt, pageSlots, entriesOf, pagesRight, directoryRight, inOrder, legal, fencePages, firstIsLeast, headRight, countRight, pageFormed, ascending, withinCapacity}
+use Rattle.rules.specs.Sound.{pagesOf, headSlots, pageSlots, entriesOf, pagesRight, directoryRight, inOrder, legal, fencePages, firstIsLeast, headRight, countRight, pageFormed, ascending, withinCapacity}
 use Rattle.rules.specs.Good.{Good, Fits}
 use Rattle.rules.specs.Reading.{Reads}
 use Rattle.walk.specs.Passes.{pages-of}
@@ -28,7 +28,8 @@ use Rattle.entries.specs.Levels.{pages-none}
 use Rattle.finding.specs.Tests.{all-take, all-drop}
 use Rattle.finding.specs.Rising.{rising-take, rising-drop, rising-order}
 use Rattle.finding.specs.Woven.{entries-woven, fence-pages-woven}
-use Rattle.finding.specs.Rows.{fencesOver, pagesUnder, Row, Rows, pages-some, pages-inside, fences-only, fences-pages, woven-legal, woven-rising, woven-first, least-fence-first, head-woven, lower-rows, row-below, some-slot, pages-at, pages-past}
+use Rattle.finding.specs.Fences.{fencesOver, pagesUnder, pages-some, pages-inside, fences-only, fences-pages}
+use Rattle.finding.specs.Rows.{Row, Rows, woven-legal, woven-rising, woven-first, least-fence-first, head-woven, lower-rows, row-below, some-slot, pages-at, pages-past}
 
 or-true : (b : Bool) → (b || true) ≡ true
 or-true true = refl
@@ -55,6 +56,9 @@ module _ (g : Geometry) (s : State) (w : List ℕ) (fit : InRange g) (good : Goo
           let b = ltb-false i (g .levels) e in
           pages-none g w i b ∙ sym (pages-past slots i (omega (arith, b, fits .levels)))
 
+  pub pages-below : (i : ℕ) → 1 ≤ i → i < g .levels → 1 ≤ pagesOf g w i
+  pages-below i h b = rw (reads .pages i h b) (pages-some (length (getD slots i [])))
+
   -- The directory.
   count-right : (i : ℕ) → 1 ≤ i → i ≤ 3 → pagesRight g w i ≡ true
   unfolding pagesRight
@@ -64,8 +68,7 @@ module _ (g : Geometry) (s : State) (w : List ℕ) (fit : InRange g) (good : Goo
           elim b as (λ x. Bool) [ true ↦ leb 1 (getD w (pagesWord i) 0) && leb (getD w (pagesWord i) 0) (room g i) | false ↦ eqb (getD w (pagesWord i) 0) 0 ] ≡ true
       chosen true e =
           let b = ltb-true i (g .levels) e in
-          let n : getD w (pagesWord i) 0 ≡ pagesFor (length (getD slots i [])) = sym (pages-of g w i b) ∙ reads .pages i h b in
-          rw (n, le-leb 1 (pagesFor (length (getD slots i []))) (pages-some (length (getD slots i [])))) (le-leb (pagesFor (length (getD slots i []))) (room g i) (fits .rooms i h b))
+          rw (← pages-of g w i b, le-leb 1 (pagesOf g w i) (pages-below i h b)) (le-leb (pagesOf g w i) (room g i) (rw (reads .pages i h b) (fits .rooms i h b)))
       chosen false e = eq-eqb (getD w (pagesWord i) 0) 0 (reads .no-pages i (ltb-false i (g .levels) e) m)
 
   pub directory-right : directoryRight g w ≡ true
@@ -104,10 +107,10 @@ module _ (g : Geometry) (s : State) (w : List ℕ) (fit : InRange g) (good : Goo
       (rw (ne-eqb 0 (bottom g) (λ e. omega (arith, e, fit .levels-least)), withinCapacity, capacity-zero g) at (good .within 0 (omega (arith, fit .levels-least))))
 
   head-order : inOrder headRow ≡ true
-  head-order = rising-order 0 headRow (woven-rising (level 0 (s .tree)) lower (all-level-0) rows)
+  head-order = rising-order 0 headRow (woven-rising (level 0 (s .tree)) lower top-ascends rows)
     where
-      all-level-0 : ascending (level 0 (s .tree)) ≡ true
-      all-level-0 = all-at ascending (s .tree) 0 [] (good .ascends) (omega (arith, good .levels, fit .levels-least))
+      top-ascends : ascending (level 0 (s .tree)) ≡ true
+      top-ascends = all-at ascending (s .tree) 0 [] (good .ascends) (omega (arith, good .levels, fit .levels-least))
 
   head-turns : equal (fencePages headRow) (span (λ p. p) 0 (pagesUnder lower)) ≡ true
   head-turns =
@@ -154,8 +157,7 @@ module _ (g : Geometry) (s : State) (w : List ℕ) (fit : InRange g) (good : Goo
         compared : (x : Bool) → ltb (suc i) (g .levels) ≡ x → i ≡ bottom g
         compared true z =
             let c = ltb-true (suc i) (g .levels) z in
-            let n : 1 ≤ pagesOf g w (suc i) = rw (reads .pages (suc i) (omega arith) c) (pages-some (length (getD slots (suc i) []))) in
-            absurd (omega (arith, e, some-slot row (row-of .first-least n)))
+            absurd (omega (arith, e, some-slot row (row-of .first-least (pages-below (suc i) (omega arith) c))))
         compared false z = omega (arith, b, ltb-false (suc i) (g .levels) z)
 
     page-count : countRight g w i p ≡ true

@@ -2,27 +2,28 @@
 use Prim.Native.Nat.{ℕ, zero, suc, _+_, _*_, _≤_, _<_}
 use native.Mathlib.Omega.{arith}
 use mathlib.Core.Path.{_≡_, refl, sym, ap, _∙_}
-use mathlib.Core.Bool.{Bool, true, false, _&&_}
+use mathlib.Core.Bool.{Bool, true, false, false≢true}
 use mathlib.Core.List.{List, [], _∷_, _++_}
 use lib.ListN.{length, getD, take, drop, take-append-drop, drop-of-length-le}
 use lib.Seq.{drop-cons, drop-drop, split-at}
-use lib.Dec.{ltb, eqb}
+use lib.Dec.{ltb}
 use borrow.Author.Tests.{ltb-true, ltb-false}
 use Rattle.laws.specs.Tests.{and-right}
 use Rattle.laws.specs.Lists.{all}
 use Rattle.laws.specs.Flat.{all-first, all-rest}
 use Rattle.slot.specs.declared.Pair.{Pair}
 use Rattle.slot.specs.declared.Slot.{Slot}
-use Rattle.slot.specs.Pair.{rank, least, before, same, none-before-least}
+use Rattle.slot.specs.Pair.{least, before, same, none-before-least}
 use Rattle.slot.specs.Order.{before-below, not-before-above, same-level}
 use Rattle.page.specs.Told.{no-fence}
 use Rattle.rules.specs.Level.{external, pagesFor, pageOf, firstOf}
-use Rattle.rules.specs.Finding.{Told, decided, follow, nothing, tell}
+use Rattle.rules.specs.Finding.{Told, follow, nothing, tell}
 use Rattle.rules.specs.Sound.{legal, firstIsLeast, firstRight}
 use Rattle.finding.specs.Tests.{all-take}
-use Rattle.finding.specs.Rising.{weight, Rising, weight-least, weight-most, fence-weight, entry-weight, rising-take, rising-drop, rising-lower, rising-at}
+use Rattle.finding.specs.Rising.{weight, Rising, weight-least, weight-most, entry-weight, rising-take, rising-drop}
 use Rattle.finding.specs.Woven.{fence}
-use Rattle.finding.specs.Rows.{Row, some-slot, pages-inside, pages-reach}
+use Rattle.finding.specs.Fences.{pages-inside, pages-reach}
+use Rattle.finding.specs.Rows.{Row, some-slot}
 use Rattle.finding.specs.Telling.{tellOn, by-slot, on-above, on-fence, on-entry, on-past, tell-forward}
 use Rattle.finding.specs.RowTold.{Leads}
 
@@ -78,7 +79,7 @@ module _ (p : Pair) where
   -- The least fence is at most the pair.
   least-at-most : (ss : List Slot) → firstIsLeast ss ≡ true → before p (firstOf ss 0) ≡ false
   unfolding firstIsLeast firstOf
-  least-at-most [] e = absurd (let z : _≡_ {A = ℕ} 0 1 = cc in omega arith)
+  least-at-most [] e = absurd (false≢true e)
   least-at-most (s ∷ ss) e = none-before-least p (s .pair) (and-right (fence s) (same least (s .pair)) e)
 
   module _ (below : ℕ) (slots : List Slot) (row : Row below slots) where

@@ -1,14 +1,14 @@
 -- A row cut into pages with its internal fences: what is legal stays legal, rising weights go on rising, and each page begins with a
 -- fence. Assumes nothing.
-use Prim.Native.Nat.{ℕ, zero, suc, _+_, _*_, _%_, _≤_, _<_}
+use Prim.Native.Nat.{ℕ, zero, suc, _+_, _*_, _%_, _<_}
 use native.Mathlib.Omega.{arith}
-use mathlib.Core.Path.{_≡_, refl, sym, ap, _∙_}
+use mathlib.Core.Path.{_≡_, refl}
 use mathlib.Core.Logic.{_≢_}
-use mathlib.Core.Bool.{Bool, true, false, _&&_}
+use mathlib.Core.Bool.{Bool, true, false, false≢true}
 use mathlib.Core.List.{List, [], _∷_}
 use lib.ListN.{length, getD}
-use lib.Dec.{ltb, eqb}
-use borrow.Author.Tests.{lt-ltb, ltb-true, eq-eqb, ne-eqb, eqb-true, eqb-false}
+use lib.Dec.{eqb}
+use borrow.Author.Tests.{lt-ltb, ltb-true, eqb-true, eqb-false}
 use Rattle.laws.specs.Lists.{all}
 use Rattle.laws.specs.Flat.{all-first, all-rest}
 use Rattle.slot.specs.declared.Slot.{Slot}
@@ -59,27 +59,27 @@ legal-inner below s = by-kind (s .kind)
     by-kind Normal e = e
     by-kind Filter e = e
     by-kind External e = e
-    by-kind Internal e = cc
+    by-kind Internal e = absurd (false≢true e)
 
 legal-page : (below : ℕ) (s : Slot) → fence s ≡ true → legal false below s ≡ true → s .page .0 < below
 unfolding legal
 legal-page below s = by-kind (s .kind)
   where
     by-kind : (k : Kind) → fenceKind k ≡ true → legalKind false below k (s .page .0) ≡ true → s .page .0 < below
-    by-kind Normal f e = absurd (let z : _≡_ {A = ℕ} 0 1 = cc in omega arith)
-    by-kind Filter f e = absurd (let z : _≡_ {A = ℕ} 0 1 = cc in omega arith)
+    by-kind Normal f e = absurd (false≢true f)
+    by-kind Filter f e = absurd (false≢true f)
     by-kind External f e = ltb-true (s .page .0) below e
-    by-kind Internal f e = absurd (let z : _≡_ {A = ℕ} 0 1 = cc in omega arith)
+    by-kind Internal f e = absurd (false≢true e)
 
 external-weight : (below : ℕ) (s : Slot) → fence s ≡ true → legal false below s ≡ true → weight s ≡ 3 * rank (s .pair)
 unfolding legal weight
 external-weight below s f e = omega (arith, by-kind (s .kind) f e)
   where
     by-kind : (k : Kind) → fenceKind k ≡ true → legalKind false below k (s .page .0) ≡ true → turn k ≡ 0
-    by-kind Normal f e = absurd (let z : _≡_ {A = ℕ} 0 1 = cc in omega arith)
-    by-kind Filter f e = absurd (let z : _≡_ {A = ℕ} 0 1 = cc in omega arith)
+    by-kind Normal f e = absurd (false≢true f)
+    by-kind Filter f e = absurd (false≢true f)
     by-kind External f e = refl
-    by-kind Internal f e = absurd (let z : _≡_ {A = ℕ} 0 1 = cc in omega arith)
+    by-kind Internal f e = absurd (false≢true e)
 
 -- Its slots stay legal, and an internal fence names the page of the last fence before it.
 legal-internal : (below n : ℕ) (s : Slot) → n < below → legal true below (internal (s .pair) n) ≡ true
@@ -114,29 +114,23 @@ rising-paged below =
     let e = entry-weight s k in
     (r .0, ih (suc (weight s)) (omega (arith, e)) (all-rest (legal false below) s ss a) (r .1)))
 
--- Each page begins with a fence.
-pub fence-opens : (j last : ℕ) (ss : List Slot) (m : ℕ) (d : Slot) → j < 21 → (j + m) % 21 ≡ 0 → m < length (paged j last ss) →
-    fence (getD (paged j last ss) m d) ≡ true
+-- Each page begins with a fence: the slot that stands m after one at j of its page, where j + m is a whole number of pages.
+abbrev pub Opens : ℕ → List Slot → Type 0
+Opens j row = (m : ℕ) (d : Slot) → j < 21 → (j + m) % 21 ≡ 0 → m < length row → fence (getD row m d) ≡ true
+
+pub fence-opens : (j last : ℕ) (ss : List Slot) → Opens j (paged j last ss)
 unfolding internal
-fence-opens =
-    by-paging (λ j last ss row. (m : ℕ) (d : Slot) → j < 21 → (j + m) % 21 ≡ 0 → m < length row → fence (getD row m d) ≡ true)
-    (λ j last m d b o h. absurd (omega arith)) opens-fence opens-entry opens-later
+fence-opens = by-paging (λ j last ss row. Opens j row) (λ j last m d b o h. absurd (omega arith)) at-fence at-opening within-page
   where
-    opens-fence : (j last : ℕ) (s : Slot) (ss row : List Slot) → fence s ≡ true →
-        ((m : ℕ) (d : Slot) → (j + 1) % 21 < 21 → ((j + 1) % 21 + m) % 21 ≡ 0 → m < length row → fence (getD row m d) ≡ true) →
-        (m : ℕ) (d : Slot) → j < 21 → (j + m) % 21 ≡ 0 → m < length (s ∷ row) → fence (getD (s ∷ row) m d) ≡ true
-    opens-fence j last s ss row k ih zero d b o h = k
-    opens-fence j last s ss row k ih (suc m) d b o h = ih m d (omega arith) (omega arith) (omega arith)
+    at-fence : (j last : ℕ) (s : Slot) (ss row : List Slot) → fence s ≡ true → Opens ((j + 1) % 21) row → Opens j (s ∷ row)
+    at-fence j last s ss row k ih zero d b o h = k
+    at-fence j last s ss row k ih (suc m) d b o h = ih m d (omega arith) (omega arith) (omega arith)
 
-    opens-entry : (last : ℕ) (s : Slot) (ss row : List Slot) → fence s ≡ false →
-        ((m : ℕ) (d : Slot) → 2 < 21 → (2 + m) % 21 ≡ 0 → m < length row → fence (getD row m d) ≡ true) →
-        (m : ℕ) (d : Slot) → 0 < 21 → (0 + m) % 21 ≡ 0 → m < length (internal (s .pair) last ∷ s ∷ row) → fence (getD (internal (s .pair) last ∷ s ∷ row) m d) ≡ true
-    opens-entry last s ss row k ih zero d b o h = refl
-    opens-entry last s ss row k ih (suc zero) d b o h = absurd (omega arith)
-    opens-entry last s ss row k ih (suc (suc m)) d b o h = ih m d (omega arith) (omega arith) (omega arith)
+    at-opening : (last : ℕ) (s : Slot) (ss row : List Slot) → fence s ≡ false → Opens 2 row → Opens 0 (internal (s .pair) last ∷ s ∷ row)
+    at-opening last s ss row k ih zero d b o h = refl
+    at-opening last s ss row k ih (suc zero) d b o h = absurd (omega arith)
+    at-opening last s ss row k ih (suc (suc m)) d b o h = ih m d (omega arith) (omega arith) (omega arith)
 
-    opens-later : (j last : ℕ) (s : Slot) (ss row : List Slot) → fence s ≡ false → j ≢ 0 →
-        ((m : ℕ) (d : Slot) → (j + 1) % 21 < 21 → ((j + 1) % 21 + m) % 21 ≡ 0 → m < length row → fence (getD row m d) ≡ true) →
-        (m : ℕ) (d : Slot) → j < 21 → (j + m) % 21 ≡ 0 → m < length (s ∷ row) → fence (getD (s ∷ row) m d) ≡ true
-    opens-later j last s ss row k n ih zero d b o h = absurd (omega (arith, n))
-    opens-later j last s ss row k n ih (suc m) d b o h = ih m d (omega arith) (omega arith) (omega arith)
+    within-page : (j last : ℕ) (s : Slot) (ss row : List Slot) → fence s ≡ false → j ≢ 0 → Opens ((j + 1) % 21) row → Opens j (s ∷ row)
+    within-page j last s ss row k n ih zero d b o h = absurd (omega (arith, n))
+    within-page j last s ss row k n ih (suc m) d b o h = ih m d (omega arith) (omega arith) (omega arith)

@@ -2,8 +2,8 @@
 -- an index entry. So a level has at most three slots of a pair, and slots a page apart differ in pair. Assumes nothing.
 use Prim.Native.Nat.{ℕ, zero, suc, _+_, _*_, _≤_, _<_}
 use native.Mathlib.Omega.{arith}
-use mathlib.Core.Path.{_≡_, refl, ap}
-use mathlib.Core.Bool.{Bool, true, false, _||_, _&&_}
+use mathlib.Core.Path.{_≡_, refl, sym, ap}
+use mathlib.Core.Bool.{Bool, true, false, false≢true, _||_, _&&_}
 use mathlib.Core.List.{List, [], _∷_}
 use lib.ListN.{length, getD, take, drop}
 use Rattle.laws.specs.Lists.{span}
@@ -52,16 +52,16 @@ fence-weight s e = omega (arith, turn-fence (s .kind) e)
     turn-fence : (k : Kind) → fenceKind k ≡ true → turn k ≤ 1
     turn-fence External e = omega arith
     turn-fence Internal e = omega arith
-    turn-fence Normal e = let z : _≡_ {A = ℕ} 0 1 = cc in absurd (omega arith)
-    turn-fence Filter e = let z : _≡_ {A = ℕ} 0 1 = cc in absurd (omega arith)
+    turn-fence Normal e = absurd (false≢true e)
+    turn-fence Filter e = absurd (false≢true e)
 
 pub entry-weight : (s : Slot) → fenceKind (s .kind) ≡ false → weight s ≡ 3 * rank (s .pair) + 2
 unfolding weight
 entry-weight s e = ap (λ (t : ℕ). 3 * rank (s .pair) + t) (turn-entry (s .kind) e)
   where
     turn-entry : (k : Kind) → fenceKind k ≡ false → turn k ≡ 2
-    turn-entry External e = let z : _≡_ {A = ℕ} 0 1 = cc in absurd (omega arith)
-    turn-entry Internal e = let z : _≡_ {A = ℕ} 0 1 = cc in absurd (omega arith)
+    turn-entry External e = absurd (false≢true (sym e))
+    turn-entry Internal e = absurd (false≢true (sym e))
     turn-entry Normal e = refl
     turn-entry Filter e = refl
 
@@ -99,7 +99,8 @@ rising-apart n (s ∷ ss) (suc i) zero d r l h = absurd (omega arith)
 rising-apart n (s ∷ ss) (suc i) (suc j) d r l h = omega (arith, rising-apart (suc (weight s)) ss i j d (r .1) (omega arith) (omega arith))
 
 -- A span rises if each of its slots weighs less than the next.
-pub rising-span : (f : ℕ → Slot) (n i m : ℕ) → n ≤ weight (f i) → ((k : ℕ) → i ≤ k → suc k < i + m → weight (f k) < weight (f (suc k))) → Rising n (span f i m)
+pub rising-span : (f : ℕ → Slot) (n i m : ℕ) → n ≤ weight (f i) → ((k : ℕ) → i ≤ k → suc k < i + m → weight (f k) < weight (f (suc k))) →
+    Rising n (span f i m)
 unfolding Rising span
 rising-span f n i zero h a = tt
 rising-span f n i (suc zero) h a = (h, tt)

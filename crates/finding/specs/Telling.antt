@@ -1,19 +1,19 @@
 -- What rising slots tell of a pair, from the front on: the last fence at most the pair, unless an index entry of just that pair comes.
 -- Assumes nothing.
-use Prim.Native.Nat.{ℕ, suc, _+_, _*_, _≤_, _<_}
+use Prim.Native.Nat.{ℕ, suc, _+_, _*_, _<_}
 use native.Mathlib.Omega.{arith}
-use mathlib.Core.Path.{_≡_, refl, sym, ap, _∙_}
-use mathlib.Core.Bool.{Bool, true, false, not, _&&_}
-use mathlib.Core.List.{List, [], _∷_, _++_, reverseAux}
+use mathlib.Core.Path.{_≡_, refl, ap, _∙_}
+use mathlib.Core.Bool.{Bool, true, false, not}
+use mathlib.Core.List.{List, [], _∷_, reverseAux}
 use Rattle.laws.specs.Tests.{and-false}
 use Rattle.laws.specs.Lists.{passing, passing-yes, passing-no}
 use Rattle.slot.specs.declared.Pair.{Pair}
 use Rattle.slot.specs.declared.Slot.{Slot}
 use Rattle.slot.specs.Pair.{rank, before, same}
-use Rattle.slot.specs.Order.{before-below, not-before-above, same-level, below-before}
+use Rattle.slot.specs.Order.{before-below, same-level, below-before}
 use Rattle.rules.specs.Level.{fenceKind}
 use Rattle.rules.specs.Finding.{Told, decided, follow, nothing, normalKind, atMost, stepBack, tellFrom, tell}
-use Rattle.finding.specs.Rising.{weight, Rising, weight-least, weight-most, fence-weight, entry-weight, rising-lower}
+use Rattle.finding.specs.Rising.{weight, Rising, weight-least, weight-most, entry-weight}
 use Rattle.finding.specs.Woven.{fence}
 
 -- What is told where the fences before tell `last`. A slot above the pair ends it.
@@ -96,13 +96,15 @@ unfolding Rising passing tellOn
 tell-back p n [] back r e = e
 tell-back p n (s ∷ ss) back r e =
     by-slot p s (tellFrom p (reverseAux (passing upTo (s ∷ ss)) back) ≡ tellOn p (stepBack back) (s ∷ ss))
-    (λ a. rw (passing-no upTo s ss (ap not a), above-rising p (suc (weight s)) ss (omega (arith, before-below p (s .pair) a, weight-least s)) (r .1), on-above p s (stepBack back) ss a) e)
+    (λ a.
+    let none = above-rising p (suc (weight s)) ss (omega (arith, before-below p (s .pair) a, weight-least s)) (r .1) in
+    rw (passing-no upTo s ss (ap not a), none, on-above p s (stepBack back) ss a) e)
     (λ a k.
     rw (passing-yes upTo s ss (ap not a), on-fence p s (stepBack back) ss a k, ← step-fence p s back k)
     (tell-back p (suc (weight s)) ss (s ∷ back) (r .1) (back-fence p s back k)))
     (λ a k m.
-    rw (passing-yes upTo s ss (ap not a), above-rising p (suc (weight s)) ss (omega (arith, same-level p (s .pair) m, entry-weight s k)) (r .1), on-entry p s (stepBack back) ss a k m)
-    (back-entry p s back k m))
+    let none = above-rising p (suc (weight s)) ss (omega (arith, same-level p (s .pair) m, entry-weight s k)) (r .1) in
+    rw (passing-yes upTo s ss (ap not a), none, on-entry p s (stepBack back) ss a k m) (back-entry p s back k m))
     (λ a k m.
     rw (passing-yes upTo s ss (ap not a), on-past p s (stepBack back) ss a k m, ← step-past p s back k)
     (tell-back p (suc (weight s)) ss (s ∷ back) (r .1) (back-past p s back k m)))

@@ -1,10 +1,10 @@
 -- On the writing of a good state the walk of ask finds no fault and what the tree holds. Assumes nothing.
-use Prim.Native.Nat.{ℕ, zero, suc, _+_, _-_, _≤_, _<_}
+use Prim.Native.Nat.{ℕ, suc, _+_, _≤_, _<_}
 use native.Mathlib.Nat.{add-zero}
 use native.Mathlib.Numerals.{add-one}
 use native.Mathlib.Omega.{arith}
 use mathlib.Core.Path.{_≡_, refl, sym, ap, _∙_}
-use mathlib.Core.Bool.{Bool, true, false, _&&_, _||_, cond}
+use mathlib.Core.Bool.{Bool, true, false, _||_}
 use mathlib.Core.List.{List, [], _∷_}
 use lib.ListN.{length, getD, drop, length-drop}
 use lib.Seq.{drop-cons, drop-drop, getD-drop}
@@ -17,23 +17,22 @@ use Rattle.geometry.specs.Geometry.{InRange, bottom}
 use Rattle.slot.specs.declared.Pair.{Pair}
 use Rattle.slot.specs.declared.Slot.{Slot}
 use Rattle.rules.specs.Tree.{Level, Tree, level}
-use Rattle.rules.specs.Level.{pagesFor, pageOf, firstOf, weave, laid, slotsOf}
-use Rattle.rules.specs.Finding.{Met, absent, met, find, held, Told, decided, follow, nothing, tell}
+use Rattle.rules.specs.Level.{pagesFor, pageOf, firstOf, laid, slotsOf}
+use Rattle.rules.specs.Finding.{Met, absent, met, find, held, Told, tell}
 use Rattle.rules.specs.Merging.{State}
-use Rattle.rules.specs.Sound.{pagesOf, headSlots, pageSlots, ascending, pageRight, firstRight}
+use Rattle.rules.specs.Sound.{pagesOf, headSlots, ascending, pageRight, firstRight}
 use Rattle.rules.specs.Good.{Good, Fits}
 use Rattle.rules.specs.Reading.{Reads}
-use Rattle.walk.specs.declared.Walked.{Walked}
-use Rattle.walk.specs.declared.Walked.the-variants.{Found, Fault}
+use Rattle.walk.specs.declared.Walked.the-variants.{Found}
 use Rattle.walk.specs.Step.{stepOf, headStep, pageStep}
-use Rattle.walk.specs.Walk.{walkOn, walked, walk-decided, walk-nothing}
+use Rattle.walk.specs.Walk.{walkOn, walked}
 use Rattle.entries.specs.Ascending.{held-met, held-absent}
 use Rattle.finding.specs.Tests.{all-drop}
-use Rattle.finding.specs.Rows.{fencesOver, rowOn, laid-row, lower-laid, pages-some}
+use Rattle.finding.specs.Rows.{rowOn, laid-row, lower-laid}
 use Rattle.finding.specs.RowTold.{Leads}
-use Rattle.finding.specs.PageTold.{page-tells, page-first}
+use Rattle.finding.specs.PageTold.{page-first}
 use Rattle.finding.specs.Asked.{deciding, decider, deciding-met, deciding-absent, Tells, led, page-below, head-tells, page-led, tells-met, tells-nothing, tells-page}
-use Rattle.finding.specs.Formed.{directory-right, head-right, head-read, page-formed, row-of, pages-told}
+use Rattle.finding.specs.Formed.{directory-right, head-right, head-read, page-formed, row-of, pages-below}
 
 module _ (g : Geometry) (s : State) (w : List ℕ) (fit : InRange g) (good : Good g s) (fits : Fits g (slotsOf (s .tree)))
     (reads : Reads g (s .live) (slotsOf (s .tree)) w) (p : Pair) where
@@ -55,7 +54,7 @@ module _ (g : Geometry) (s : State) (w : List ℕ) (fit : InRange g) (good : Goo
         compared : (x : Bool) → ltb (suc i) (g .levels) ≡ x → (eqb i (bottom g) || firstRight p (pageOf row (to .page))) ≡ true
         compared true e =
             let c = ltb-true (suc i) (g .levels) e in
-            let some : 1 ≤ pagesOf g w (suc i) = rw (reads .pages (suc i) (omega arith) c) (pages-some (length (getD slots (suc i) []))) in
+            let some = pages-below g s w fit good fits reads (suc i) (omega arith) c in
             rw (ne-eqb i (bottom g) (λ z. omega (arith, c, z)))
             (page-first p (pagesOf g w (suc i)) row (rw is at (row-of g s w fit good fits reads i (to .page) h b within-level)) told to some)
         compared false e = rw (eq-eqb i (bottom g) (omega (arith, b, ltb-false (suc i) (g .levels) e)))

@@ -1,17 +1,15 @@
 -- Entries woven with fences: what holds of both holds of the row, its entries and its fences are those given, and its weights rise where
 -- theirs do. Assumes nothing.
-use Prim.Native.Nat.{ℕ, zero, suc, _+_, _*_, _≤_, _<_}
+use Prim.Native.Nat.{ℕ, suc, _+_, _*_}
 use native.Mathlib.Omega.{arith}
 use mathlib.Core.Path.{_≡_, refl, sym, ap, _∙_}
 use mathlib.Core.Bool.{Bool, true, false}
 use mathlib.Core.List.{List, [], _∷_, map}
-use lib.ListN.{length}
-use Rattle.laws.specs.Lists.{passing, all, passing-yes, passing-no}
+use Rattle.laws.specs.Lists.{all, passing-yes, passing-no}
 use Rattle.laws.specs.Flat.{all-first, all-rest}
 use Rattle.slot.specs.declared.Slot.{Slot}
-use Rattle.slot.specs.declared.Kind.{Kind}
-use Rattle.slot.specs.declared.Kind.the-variants.{Normal, Filter, External, Internal}
-use Rattle.slot.specs.Pair.{rank, before}
+use Rattle.slot.specs.declared.Kind.the-variants.{Normal, Filter}
+use Rattle.slot.specs.Pair.{before}
 use Rattle.slot.specs.Order.{before-below, not-before-above}
 use Rattle.rules.specs.Tree.{Entry, Level, rankOf}
 use Rattle.rules.specs.Level.{index, fenceKind, place, weave}
@@ -130,7 +128,8 @@ rising-from : (n : ℕ) (es : Level) → From n es → Rising (3 * n) (map index
 unfolding From Rising
 rising-from n [] a = tt
 rising-from n (e ∷ es) a =
-    (omega (arith, a .0, index-weight e), rising-lower (suc (weight (index e))) (3 * suc (rankOf e)) (map index es) (omega (arith, index-weight e)) (rising-from (suc (rankOf e)) es (a .1)))
+    let rest = rising-from (suc (rankOf e)) es (a .1) in
+    (omega (arith, a .0, index-weight e), rising-lower (suc (weight (index e))) (3 * suc (rankOf e)) (map index es) (omega (arith, index-weight e)) rest)
 
 pub rising-entries : (es : Level) → ascending es ≡ true → Rising 0 (map index es)
 rising-entries es a = rising-from 0 es (from-ascending es a)
