@@ -1,8 +1,14 @@
 -- Good states, and what keeps them so: theorems on lists of entries, from one entry toggled up to a whole cascade of merges.
 --
+--   Pages       the slots and pages that a level takes
+--   Fitting     slots whose parts are words
+--   Room        the page rooms suffice
 --   Rising      pairs compared three ways; levels that ascend, as a test and as bounds on ranks
 --   Toggle      an entry toggled into a level
 --   Join        two levels joined
+pub mod Pages
+pub mod Fitting
+pub mod Room
 pub mod Rising
 pub mod Toggle
 pub mod Join
