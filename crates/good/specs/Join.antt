@@ -14,7 +14,7 @@ use Rattle.rules.specs.Finding.{Met, absent, met, find}
 use Rattle.rules.specs.Merging.{toggle, join}
 use Rattle.rules.specs.Good.{LevelFits}
 use Rattle.entries.specs.Ascending.{From, from-lower, find-here, find-on, find-above}
-use Rattle.good.specs.Toggle.{toggle-cancels, toggle-after, toggle-front, toggle-from, toggle-fits, toggle-length}
+use Rattle.good.specs.Toggle.{toggle-cancels, toggle-after, toggle-front, toggle-from, toggle-fits, toggle-length, cancel, find-nothing, find-other, above-same, find-toggle}
 
 -- The result rises from where both do.
 pub join-from : (n : ℕ) (es fs : Level) → From n es → From n fs → From n (join es fs)
@@ -63,3 +63,16 @@ pub join-length : (es fs : Level) → length (join es fs) ≤ length es + length
 unfolding join
 join-length [] fs = omega arith
 join-length (e ∷ es) fs = omega (arith, toggle-length e (join es fs), join-length es fs)
+
+-- It tells of a pair what the one level does that has an entry of it, and nothing where both have.
+pub find-join : (p : Pair) (m n : ℕ) (es fs : Level) → From m es → From n fs → find p (join es fs) ≡ cancel (find p es) (find p fs)
+unfolding From join cancel
+find-join p m n [] fs a b = rw (find-nothing p) refl
+find-join p m n (e ∷ es) fs a b =
+    find-toggle p 0 e (join es fs) (join-from 0 es fs (from-lower 0 (suc (rankOf e)) es (omega arith) (a .1)) (from-lower 0 n fs (omega arith) b)) ∙
+    told (same p (e .pair)) refl (find-join p (suc (rankOf e)) n es fs (a .1) b)
+  where
+    told : (t : Bool) → same p (e .pair) ≡ t → find p (join es fs) ≡ cancel (find p es) (find p fs) →
+        cancel (find p (e ∷ [])) (find p (join es fs)) ≡ cancel (find p (e ∷ es)) (find p fs)
+    told true s rest = rw (rest, find-here p e [] s, find-here p e es s, above-same p e es s (a .1)) refl
+    told false s rest = rw (find-other p e s, find-on p e es s) rest
