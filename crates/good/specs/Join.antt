@@ -76,3 +76,8 @@ find-join p m n (e ∷ es) fs a b =
         cancel (find p (e ∷ [])) (find p (join es fs)) ≡ cancel (find p (e ∷ es)) (find p fs)
     told true s rest = rw (rest, find-here p e [] s, find-here p e es s, above-same p e es s (a .1)) refl
     told false s rest = rw (find-other p e s, find-on p e es s) rest
+
+-- Of a pair below the whole upper level it tells what the lower level does.
+pub find-join-lower : (p : Pair) (n : ℕ) (es fs : Level) → From (suc (rank p)) es → From n fs → find p (join es fs) ≡ find p fs
+unfolding cancel
+find-join-lower p n es fs a b = find-join p (suc (rank p)) n es fs a b ∙ rw (find-above p es a) refl

@@ -6,9 +6,11 @@
 --   Rising      pairs compared three ways; levels that ascend, as a test and as bounds on ranks
 --   Toggle      an entry toggled into a level
 --   Join        two levels joined
+--   Alternate   entries that alternate in kind
 pub mod Pages
 pub mod Fitting
 pub mod Room
 pub mod Rising
 pub mod Toggle
 pub mod Join
+pub mod Alternate
