@@ -36,7 +36,7 @@ pub count-most : (b : Bool) (es : Level) → kindCount b es ≤ length es
 unfolding kindCount
 count-most b es = passing-small (λ e. Bool·beq b (e .normal)) es
 
--- A tree's counts are its levels' added up.
+-- The counts of levels end to end, and so of a tree, are their counts added up.
 passing-joined : (t : Entry → Bool) (xs ys : Level) → passing t (xs ++ ys) ≡ passing t xs ++ passing t ys
 unfolding passing
 passing-joined t [] ys = refl
@@ -47,7 +47,18 @@ passing-joined t (e ∷ xs) ys = picked (t e) (passing-joined t xs ys)
     picked true ih = ap (λ (l : Level). e ∷ l) ih
     picked false ih = ih
 
+pub count-joined : (b : Bool) (es fs : Level) → kindCount b (es ++ fs) ≡ kindCount b es + kindCount b fs
+unfolding kindCount
+count-joined b es fs =
+    ap length (passing-joined (λ e. Bool·beq b (e .normal)) es fs) ∙ length-append (passing (λ e. Bool·beq b (e .normal)) es) (passing (λ e. Bool·beq b (e .normal)) fs)
+
+pub count-first : (b : Bool) (e : Entry) (es : Level) → kindCount b (e ∷ es) ≡ kindCount b (e ∷ []) + kindCount b es
+count-first b e es = count-joined b (e ∷ []) es
+
 pub count-levels : (b : Bool) (es : Level) (t : Tree) → countKind b (es ∷ t) ≡ kindCount b es + countKind b t
 unfolding countKind kindCount concat
-count-levels b es t =
-    ap length (passing-joined (λ e. Bool·beq b (e .normal)) es (concat t)) ∙ length-append (passing (λ e. Bool·beq b (e .normal)) es) _
+count-levels b es t = count-joined b es (concat t)
+
+pub count-no-levels : (b : Bool) → countKind b [] ≡ 0
+unfolding countKind concat passing
+count-no-levels b = refl

@@ -7,6 +7,7 @@
 --   Toggle      an entry toggled into a level
 --   Join        two levels joined
 --   Alternate   entries that alternate in kind
+--   Live        live is the number of pairs held
 pub mod Pages
 pub mod Fitting
 pub mod Room
@@ -14,3 +15,4 @@ pub mod Rising
 pub mod Toggle
 pub mod Join
 pub mod Alternate
+pub mod Live

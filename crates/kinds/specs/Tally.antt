@@ -6,10 +6,10 @@ use mathlib.Core.Path.{_≡_, refl, ap, _∙_}
 use mathlib.Core.Bool.{Bool, true, false, Bool·beq}
 use mathlib.Core.List.{[], _∷_, _++_}
 use lib.ListN.{length}
-use Rattle.laws.specs.Lists.{concat, passing}
+use Rattle.laws.specs.Lists.{passing}
 use Rattle.rules.specs.Tree.{Entry, Level, Tree}
 use Rattle.rules.specs.Sound.{countKind}
-use Rattle.entries.specs.Counts.{kindCount, count-normal, count-filter, count-most, count-levels}
+use Rattle.entries.specs.Counts.{kindCount, count-normal, count-filter, count-most, count-levels, count-no-levels}
 use Rattle.kinds.specs.declared.Tally.{Tally}
 
 abbrev pub levelTally : Level → Tally
@@ -24,14 +24,10 @@ pub record TallySmall (n : Tally) : Type 0 where
   pub few-filters : n .filters ≤ 8000000
 
 -- The counts of four levels, added up.
-count-bottom : (b : Bool) (es : Level) → kindCount b es + countKind b [] ≡ kindCount b es
-unfolding countKind concat passing
-count-bottom b es = add-zero (kindCount b es)
-
 pub count-four : (b : Bool) (a c d e : Level) → countKind b (a ∷ c ∷ d ∷ e ∷ []) ≡ kindCount b a + (kindCount b c + (kindCount b d + kindCount b e))
 count-four b x c d e =
     count-levels b x (c ∷ d ∷ e ∷ []) ∙ ap (λ (n : ℕ). kindCount b x + n) (count-levels b c (d ∷ e ∷ []) ∙
-    ap (λ (n : ℕ). kindCount b c + n) (count-levels b d (e ∷ []) ∙ ap (λ (n : ℕ). kindCount b d + n) (count-levels b e [] ∙ count-bottom b e)))
+    ap (λ (n : ℕ). kindCount b c + n) (count-levels b d (e ∷ []) ∙ ap (λ (n : ℕ). kindCount b d + n) (count-levels b e [] ∙ rw (count-no-levels b) (add-zero (kindCount b e)))))
 
 -- How far a count has come: what is ahead completes the level's.
 pub record Counted (n m : ℕ) (es whole : Level) : Type 0 where
