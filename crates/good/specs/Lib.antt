@@ -8,6 +8,8 @@
 --   Join        two levels joined
 --   Alternate   entries that alternate in kind
 --   Live        live is the number of pairs held
+--   Under       a tree under empty levels
+--   Merge       a level merged into the next
 pub mod Pages
 pub mod Fitting
 pub mod Room
@@ -16,3 +18,5 @@ pub mod Toggle
 pub mod Join
 pub mod Alternate
 pub mod Live
+pub mod Under
+pub mod Merge
