@@ -10,6 +10,7 @@
 --   Live        live is the number of pairs held
 --   Under       a tree under empty levels
 --   Merge       a level merged into the next
+--   Cascade     merges one after another, down to a good state
 pub mod Pages
 pub mod Fitting
 pub mod Room
@@ -20,3 +21,4 @@ pub mod Alternate
 pub mod Live
 pub mod Under
 pub mod Merge
+pub mod Cascade

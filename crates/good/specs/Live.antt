@@ -5,6 +5,7 @@ use mathlib.Core.Path.{_≡_, refl, sym, ap, _∙_}
 use mathlib.Core.Bool.{Bool, true, false, not}
 use mathlib.Core.List.{List, [], _∷_, _++_}
 use lib.ListN.{length}
+use borrow.Author.Tests.{eqb-true, eq-eqb}
 use Rattle.laws.specs.Lists.{concat}
 use Rattle.slot.specs.declared.Pair.{Pair}
 use Rattle.slot.specs.Pair.{rank, before, same}
@@ -12,7 +13,7 @@ use Rattle.slot.specs.Order.{before-below, apart-not-same}
 use Rattle.rules.specs.Tree.{Entry, Level, Tree, rankOf}
 use Rattle.rules.specs.Finding.{Met, absent, met, find, held}
 use Rattle.rules.specs.Merging.{toggle, join}
-use Rattle.rules.specs.Sound.{alternating, countKind}
+use Rattle.rules.specs.Sound.{alternating, countKind, liveRight}
 use Rattle.entries.specs.Ascending.{From, AllFrom, from-lower, find-here, find-on, held-met, held-agree}
 use Rattle.entries.specs.Counts.{kindCount, count-none, count-normal, count-filter, count-joined, count-first, count-levels, count-no-levels}
 use Rattle.good.specs.Rising.{Compared, earlier, equal, later, compared}
@@ -76,6 +77,14 @@ join-even m n (e ∷ es) fs t a b o =
 -- Of live and a tree: live is the normal entries less the filters.
 unfoldable pub Counted : ℕ → Tree → Type 0
 Counted live t = live + countKind false t ≡ countKind true t
+
+pub right-counted : (live : ℕ) (t : Tree) → liveRight live t ≡ true → Counted live t
+unfolding Counted liveRight
+right-counted live t e = eqb-true (live + countKind false t) (countKind true t) e
+
+pub counted-right : (live : ℕ) (t : Tree) → Counted live t → liveRight live t ≡ true
+unfolding Counted liveRight
+counted-right live t c = eq-eqb (live + countKind false t) (countKind true t) c
 
 pub joined-counted : (live m n : ℕ) (es fs : Level) (t : Tree) → From m es → From n fs → Over es (fs ∷ t) → Counted live (es ∷ fs ∷ t) → Counted live (join es fs ∷ t)
 unfolding Even Counted

@@ -2,10 +2,10 @@
 -- and holds what it held. Assumes nothing.
 use Prim.Native.Nat.{ℕ, zero, suc, _+_, _-_, _≤_, _<_}
 use native.Mathlib.Omega.{arith}
-use mathlib.Core.Path.{_≡_, refl, sym, ap, _∙_}
+use mathlib.Core.Path.{_≡_, refl, sym, ap, subst, _∙_}
 use mathlib.Core.Bool.{Bool, true, false}
 use mathlib.Core.List.{List, [], _∷_, _++_}
-use lib.ListN.{length, getD, drop, replicate, length-append, length-replicate, length-drop, getD-replicate, List·getD-append}
+use lib.ListN.{length, getD, drop, replicate, length-append, length-replicate, length-drop, getD-replicate, List·getD-append, drop-of-length-le}
 use lib.Seq.{getD-at, getD-drop, getD-append-add}
 use Rattle.laws.specs.Lists.{all, all-cons}
 use Rattle.laws.specs.Flat.{all-first, all-rest}
@@ -19,7 +19,7 @@ use Rattle.entries.specs.Ascending.{From, from-ascending}
 use Rattle.good.specs.Rising.{ascending-from}
 use Rattle.good.specs.Join.{join-from, join-fits}
 use Rattle.good.specs.Alternate.{Over, alternating-over, alternating-below, over-alternating, join-over, joined-held}
-use Rattle.good.specs.Live.{Counted, joined-counted}
+use Rattle.good.specs.Live.{Counted, joined-counted, lone-live}
 use Rattle.good.specs.Under.{held-under, ascending-under, alternating-under, count-under, fits-under, empties-first}
 
 -- The levels of the merged tree.
@@ -122,16 +122,25 @@ module _ (i : ℕ) (t : Tree) (h : suc i < length t) (above : (j : ℕ) → j < 
       alternating-under (suc i) (join es fs ∷ u) ∙
       over-alternating (join es fs) u (join-over 0 0 es fs u (two .upper) (two .lower) (two .over) (two .next)) (two .below)
 
+  joined : (live : ℕ) → Counted live t → Counted live (join es fs ∷ u)
+  unfolding Counted
+  joined live c =
+      let parted : (b : Bool) → countKind b t ≡ countKind b (es ∷ fs ∷ u) = λ b. ap (countKind b) parts ∙ count-under b i (es ∷ fs ∷ u) in
+      joined-counted live 0 0 es fs u (two .upper) (two .lower) (two .over) (omega (arith, c, parted true, parted false))
+
   pub merge-counted : (live : ℕ) → Counted live t → Counted live (merge i t)
   unfolding Counted merge
-  merge-counted live c =
-      let before : (b : Bool) → countKind b t ≡ countKind b (es ∷ fs ∷ u) = λ b. ap (countKind b) parts ∙ count-under b i (es ∷ fs ∷ u) in
-      let after : (b : Bool) → countKind b (merge i t) ≡ countKind b (join es fs ∷ u) = λ b. count-under b (suc i) (join es fs ∷ u) in
-      let two-counted : Counted live (es ∷ fs ∷ u) = omega (arith, c, before true, before false) in
-      omega (arith, after true, after false, joined-counted live 0 0 es fs u (two .upper) (two .lower) (two .over) two-counted)
+  merge-counted live c = omega (arith, count-under true (suc i) (join es fs ∷ u), count-under false (suc i) (join es fs ∷ u), joined live c)
 
   pub merge-held : (p : Pair) → held p (merge i t) ≡ held p t
   unfolding merge
   merge-held p =
       held-under p (suc i) (join es fs ∷ u) ∙ joined-held p 0 0 es fs u (two .upper) (two .lower) (two .over) (two .next) ∙
       sym (ap (held p) parts ∙ held-under p i (es ∷ fs ∷ u))
+
+  -- Merged into the bottom, the entries are the pairs held.
+  pub merge-last : (live : ℕ) → Counted live t → length t ≡ suc (suc i) → length (join es fs) ≡ live
+  merge-last live c l =
+      let none : u ≡ [] = drop-of-length-le t {i = suc (suc i)} (omega (arith, l)) in
+      let over : Over (join es fs) [] = subst (Over (join es fs)) none (join-over 0 0 es fs u (two .upper) (two .lower) (two .over) (two .next)) in
+      sym (lone-live live (join es fs) over (subst (λ (r : Tree). Counted live (join es fs ∷ r)) none (joined live c)))
