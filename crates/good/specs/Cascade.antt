@@ -1,35 +1,26 @@
--- A cascade of merges: each merge hands on what a cascade keeps, the rooms suffice all the way, and where the cascade ends the state is good
--- and holds what it held. Assumes nothing.
-use Prim.Native.Nat.{ℕ, zero, suc, _+_, _-_, _≤_, _<_}
+-- A cascade of merges: each merge hands on what a cascade keeps, the rooms suffice all the way, and where it may end the state is good.
+-- Assumes nothing.
+use Prim.Native.Nat.{ℕ, zero, suc, _+_, _≤_, _<_}
 use native.Mathlib.Omega.{arith}
-use mathlib.Core.Path.{_≡_, refl, sym, ap, subst, _∙_}
+use mathlib.Core.Path.{_≡_, refl, sym, subst, _∙_}
 use mathlib.Core.Bool.{Bool, true, false}
-use mathlib.Core.List.{List, [], _∷_}
-use lib.ListN.{length, getD}
+use mathlib.Core.List.{[]}
+use lib.ListN.{length}
 use lib.Dec.{ltb, leb, eqb}
-use borrow.Author.Tests.{ltb-true, ltb-false, leb-true, eqb-true, eqb-false, lt-ltb, le-leb, eq-eqb, ne-eqb}
+use borrow.Author.Tests.{ltb-true, ltb-false, leb-true, eqb-true, eqb-false, lt-ltb, le-leb}
 use Rattle.geometry.specs.declared.Geometry.{Geometry}
 use Rattle.geometry.specs.Geometry.{InRange, bottom, capacity, most, total}
 use Rattle.geometry.specs.Bounds.{capacity-least}
 use Rattle.slot.specs.declared.Pair.{Pair}
 use Rattle.rules.specs.Tree.{Level, Tree, level}
 use Rattle.rules.specs.Finding.{held}
-use Rattle.rules.specs.Merging.{State, join, merge, Settled, settle}
+use Rattle.rules.specs.Merging.{State, join, merge}
 use Rattle.rules.specs.Sound.{withinCapacity}
 use Rattle.rules.specs.Good.{Good, Cascading, Roomy}
 use Rattle.good.specs.Join.{join-length}
 use Rattle.good.specs.Live.{Counted, right-counted, counted-right}
-use Rattle.good.specs.Merge.{merge-length, merge-above, merge-here, merge-below, merge-fits, merge-ascends, merge-alternates, merge-counted, merge-held, merge-last}
-
--- What a level may hold: fewer than cap(i) above the bottom, M in the bottom.
-module _ (g : Geometry) (i n : ℕ) where
-  pub within-upper : i < bottom g → withinCapacity g i n ≡ ltb n (capacity g i)
-  unfolding withinCapacity
-  within-upper h = rw (ne-eqb i (bottom g) (λ q. omega (arith, h, q)), withinCapacity) refl
-
-  pub within-bottom : i ≡ bottom g → withinCapacity g i n ≡ leb n (most g)
-  unfolding withinCapacity
-  within-bottom e = rw (eq-eqb i (bottom g) e, withinCapacity) refl
+use Rattle.good.specs.Merge.{merge-length, merge-above, merge-here, merge-below, merge-fits, merge-ascends, merge-alternates, merge-counted, merge-holds, merge-last}
+use Rattle.good.specs.Within.{within-upper, within-bottom}
 
 -- A level above another, that level, or one below it.
 data Stands (j i : ℕ) : Type 0 where
@@ -50,11 +41,16 @@ stands j i = first (ltb j i) refl
     first true e = above (ltb-true j i e)
     first false e = next (ltb-false j i e) (eqb j i) refl
 
-module _ (g : Geometry) (fit : InRange g) where
-  -- The state after a merge.
-  abbrev pub mergedState : ℕ → State → State
-  mergedState i s = record { live = s .live; tree = merge i (s .tree) }
+-- The state after a merge of level i.
+abbrev pub mergedState : ℕ → State → State
+mergedState i s = record { live = s .live; tree = merge i (s .tree) }
 
+-- No pair is lost or won by it.
+pub merge-held : (g : Geometry) (i : ℕ) (s : State) → Cascading g i s → i < bottom g → (p : Pair) → held p (merge i (s .tree)) ≡ held p (s .tree)
+merge-held g i s c h p = merge-holds i (s .tree) (omega (arith, h, c .levels)) (c .above) (c .ascends) (c .alternates) p
+
+module _ (g : Geometry) (fit : InRange g) where
+  -- The cascade goes on from there.
   pub merged-cascading : (i : ℕ) (s : State) → Cascading g i s → i < bottom g → Cascading g (suc i) (mergedState i s)
   unfolding total
   merged-cascading i s c h = record {
@@ -140,44 +136,3 @@ module _ (g : Geometry) (fit : InRange g) where
 
     pub settled-bottom : i ≡ bottom g → Good g s
     settled-bottom e = settled-good (within-bottom g i (length (level i (s .tree))) e ∙ le-leb (length (level i (s .tree))) (most g) (c .at-bottom e))
-
-  -- A level settled stays where it has fewer entries than its capacity, and sinks otherwise.
-  module _ (n i : ℕ) (t : Tree) where
-    pub settle-stays : ltb (length (level i t)) (capacity g i) ≡ true → (settle g (suc n) i t) .tree ≡ t
-    unfolding settle
-    settle-stays e = rw (e, settle) refl
-
-    pub settle-sinks : ltb (length (level i t)) (capacity g i) ≡ false → (settle g (suc n) i t) .tree ≡ (settle g n (suc i) (merge i t)) .tree
-    unfolding settle
-    settle-sinks e = rw (e, settle) refl
-
-  -- The whole cascade.
-  abbrev pub settledState : ℕ → ℕ → State → State
-  settledState n i s = record { live = s .live; tree = (settle g n i (s .tree)) .tree }
-
-  pub settle-good : (n i : ℕ) (s : State) → Cascading g i s → n + i ≡ bottom g → Good g (settledState n i s)
-  unfolding settle
-  settle-good zero i s c e = settled-bottom i s c (omega (arith, e))
-  settle-good (suc n) i s c e = told (ltb (length (level i (s .tree))) (capacity g i)) refl (settle-good n (suc i) (mergedState i s))
-    where
-      told : (b : Bool) → ltb (length (level i (s .tree))) (capacity g i) ≡ b →
-          (Cascading g (suc i) (mergedState i s) → n + suc i ≡ bottom g → Good g (settledState n (suc i) (mergedState i s))) → Good g (settledState (suc n) i s)
-      told true h rest = rw (settle-stays n i (s .tree) h) (settled-upper i s c (omega (arith, e)) (ltb-true (length (level i (s .tree))) (capacity g i) h))
-      told false h rest = rw (settle-sinks n i (s .tree) h) (rest (merged-cascading i s c (omega (arith, e))) (omega (arith, e)))
-
-  -- No pair is lost or won on the way.
-  pub cascade-held : (i : ℕ) (s : State) → Cascading g i s → i < bottom g → (p : Pair) → held p (merge i (s .tree)) ≡ held p (s .tree)
-  cascade-held i s c h p = merge-held i (s .tree) (omega (arith, h, c .levels)) (c .above) (c .ascends) (c .alternates) p
-
-  pub settle-held : (n i : ℕ) (s : State) → Cascading g i s → n + i ≡ bottom g → (p : Pair) → held p ((settle g n i (s .tree)) .tree) ≡ held p (s .tree)
-  unfolding settle
-  settle-held zero i s c e p = refl
-  settle-held (suc n) i s c e p = told (ltb (length (level i (s .tree))) (capacity g i)) refl (settle-held n (suc i) (mergedState i s))
-    where
-      told : (b : Bool) → ltb (length (level i (s .tree))) (capacity g i) ≡ b →
-          (Cascading g (suc i) (mergedState i s) → n + suc i ≡ bottom g → (q : Pair) → held q ((settle g n (suc i) (merge i (s .tree))) .tree) ≡ held q (merge i (s .tree))) →
-          held p ((settle g (suc n) i (s .tree)) .tree) ≡ held p (s .tree)
-      told true h rest = rw (settle-stays n i (s .tree) h) refl
-      told false h rest =
-          let k : i < bottom g = omega (arith, e) in
-          rw (settle-sinks n i (s .tree) h) (rest (merged-cascading i s c k) (omega (arith, e)) p ∙ cascade-held i s c k p)

@@ -10,7 +10,9 @@
 --   Live        live is the number of pairs held
 --   Under       a tree under empty levels
 --   Merge       a level merged into the next
---   Cascade     merges one after another, down to a good state
+--   Within      what a level may hold
+--   Cascade     merges one after another
+--   Settle      a cascade to its end, a good state
 pub mod Pages
 pub mod Fitting
 pub mod Room
@@ -21,4 +23,6 @@ pub mod Alternate
 pub mod Live
 pub mod Under
 pub mod Merge
+pub mod Within
 pub mod Cascade
+pub mod Settle

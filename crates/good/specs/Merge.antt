@@ -132,9 +132,9 @@ module _ (i : ℕ) (t : Tree) (h : suc i < length t) (above : (j : ℕ) → j < 
   unfolding Counted merge
   merge-counted live c = omega (arith, count-under true (suc i) (join es fs ∷ u), count-under false (suc i) (join es fs ∷ u), joined live c)
 
-  pub merge-held : (p : Pair) → held p (merge i t) ≡ held p t
+  pub merge-holds : (p : Pair) → held p (merge i t) ≡ held p t
   unfolding merge
-  merge-held p =
+  merge-holds p =
       held-under p (suc i) (join es fs ∷ u) ∙ joined-held p 0 0 es fs u (two .upper) (two .lower) (two .over) (two .next) ∙
       sym (ap (held p) parts ∙ held-under p i (es ∷ fs ∷ u))
 
