@@ -121,6 +121,10 @@ join-over m n (e ∷ es) fs t a b o u =
     (λ h. o .0 ∙ ap not (held-absent (e .pair) fs t (sym (find-join-lower (e .pair) n es fs (a .1) b) ∙ h)))
 
 -- And the tree holds what it held: of two entries that cancel the upper is as the pair is held below both.
+pub turned : (a b : Bool) → a ≡ not b → b ≡ not a
+turned a true h = rw h refl
+turned a false h = rw h refl
+
 twice-unlike : (a b c : Bool) → a ≡ not b → b ≡ not c → c ≡ a
 twice-unlike a b true h k = sym (h ∙ ap not k)
 twice-unlike a b false h k = sym (h ∙ ap not k)

@@ -13,6 +13,7 @@
 --   Within      what a level may hold
 --   Cascade     merges one after another
 --   Settle      a cascade to its end, a good state
+--   Edit        an entry toggled into the head of a good state
 pub mod Pages
 pub mod Fitting
 pub mod Room
@@ -26,3 +27,4 @@ pub mod Merge
 pub mod Within
 pub mod Cascade
 pub mod Settle
+pub mod Edit

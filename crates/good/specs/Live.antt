@@ -19,7 +19,7 @@ use Rattle.entries.specs.Counts.{kindCount, count-none, count-normal, count-fil
 use Rattle.good.specs.Rising.{Compared, earlier, equal, later, compared}
 use Rattle.good.specs.Toggle.{toggle-before, toggle-cancels, toggle-after, find-nothing}
 use Rattle.good.specs.Join.{join-from, find-join-lower}
-use Rattle.good.specs.Alternate.{Over, alternating-over, alternating-below, met-over, join-over, joined-held}
+use Rattle.good.specs.Alternate.{Over, alternating-over, alternating-below, turned, join-over, joined-held}
 
 -- Two levels' normal entries less their filters are one number.
 unfoldable pub Even : Level → Level → Type 0
@@ -36,7 +36,7 @@ count-unlike e f u b = told (e .normal) refl b
     told false h false = omega (arith, count-filter e [] h .1, count-normal f [] (u ∙ ap not h) .1, count-none false)
 
 -- An entry toggled counts as one more, where an entry that it cancels is of the other kind.
-abbrev CancelsUnlike : Entry → Level → Type 0
+abbrev pub CancelsUnlike : Entry → Level → Type 0
 CancelsUnlike e fs = (c : Bool) → find (e .pair) fs ≡ met c → c ≡ not (e .normal)
 
 pub toggle-even : (e : Entry) (fs : Level) → CancelsUnlike e fs → Even (toggle e fs) (e ∷ fs)
@@ -57,10 +57,6 @@ toggle-even e (f ∷ fs) k = stands (compared (e .pair) (f .pair)) (toggle-even 
         let ih : Even (toggle e fs) (e ∷ fs) = rest λ c h. k c (find-on (e .pair) f fs s ∙ h) in
         rw (toggle-after e f fs l)
         (omega (arith, ih, first true, first false, count-first true f (toggle e fs), count-first false f (toggle e fs), count-first true e fs, count-first false e fs))
-
-turned : (a b : Bool) → a ≡ not b → b ≡ not a
-turned a true h = rw h refl
-turned a false h = rw h refl
 
 -- Two neighbouring levels joined count as both.
 pub join-even : (m n : ℕ) (es fs : Level) (t : Tree) → From m es → From n fs → Over es (fs ∷ t) → Even (join es fs) (es ++ fs)
@@ -155,9 +151,9 @@ live-members live t a o c =
     let n = lone-normal (members t) (g .over) in
     omega (arith, c, n .0, n .1, g .counts)
 
-pub held-live : (live : ℕ) (t : Tree) (p : Pair) → AllFrom 0 t → alternating t ≡ true → Counted live t → held p t ≡ true → 1 ≤ live
+pub held-some : (live : ℕ) (t : Tree) (p : Pair) → AllFrom 0 t → alternating t ≡ true → Counted live t → held p t ≡ true → 1 ≤ live
 unfolding held find
-held-live live t p a o c h = some (members t) (live-members live t a o c) (gathered t a o .holds p ∙ h)
+held-some live t p a o c h = some (members t) (live-members live t a o c) (gathered t a o .holds p ∙ h)
   where
     some : (ms : Level) → live ≡ length ms → held p (ms ∷ []) ≡ true → 1 ≤ live
     some [] n k =
