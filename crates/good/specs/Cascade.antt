@@ -20,7 +20,7 @@ use Rattle.rules.specs.Good.{Good, Cascading, Roomy}
 use Rattle.good.specs.Join.{join-length}
 use Rattle.good.specs.Live.{Counted, right-counted, counted-right}
 use Rattle.good.specs.Merge.{merge-length, merge-above, merge-here, merge-below, merge-fits, merge-ascends, merge-alternates, merge-counted, merge-holds, merge-last}
-use Rattle.good.specs.Within.{within-upper, within-bottom}
+use Rattle.good.specs.Within.{within-upper, within-bottom, empty-within}
 
 -- A level above another, that level, or one below it.
 data Stands (j i : ℕ) : Type 0 where
@@ -123,11 +123,8 @@ module _ (g : Geometry) (fit : InRange g) where
       fit = c .fit;
     }
       where
-        empty : (j : ℕ) → j < bottom g → withinCapacity g j 0 ≡ true
-        empty j h = within-upper g j 0 h ∙ lt-ltb 0 (capacity g j) (omega (arith, capacity-least g fit j))
-
         within : (j : ℕ) → j < g .levels → Stands j i → withinCapacity g j (length (level j (s .tree))) ≡ true
-        within j h (above k) = rw (c .above j k) (empty j (omega (arith, k, c .reaches)))
+        within j h (above k) = rw (c .above j k) (empty-within g fit j h)
         within j h (there e) = rw e w
         within j h (below k) = c .below j k h
 

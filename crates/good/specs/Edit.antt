@@ -21,7 +21,7 @@ use Rattle.rules.specs.Merging.{State, toggle, toggleHead}
 use Rattle.rules.specs.Sound.{ascending, withinCapacity, alternating, countKind}
 use Rattle.rules.specs.Good.{Good, Cascading, TreeFits}
 use Rattle.entries.specs.Ascending.{From, levelsAscend, from-ascending, all-from-ascending, find-here, held-met, held-absent, held-agree}
-use Rattle.entries.specs.Counts.{kindCount, count-normal, count-filter, count-levels}
+use Rattle.entries.specs.Counts.{kindCount, count-none, count-normal, count-filter, count-first, count-levels}
 use Rattle.good.specs.Rising.{ascending-from}
 use Rattle.good.specs.Toggle.{toggle-from, toggle-fits, toggle-length, cancel, find-other, find-toggle}
 use Rattle.good.specs.Alternate.{Over, alternating-over, alternating-below, over-alternating, held-rank, turned, met-over, toggle-over}
@@ -107,3 +107,32 @@ module _ (g : Geometry) (fit : InRange g) (p : Pair) (b : Bool) where
   toggled-holds n [] good h q = absurd (omega (arith, good .levels, fit .levels-least))
   toggled-holds n (head ∷ lower) good h q =
       toggled-held p b head lower (from-ascending head (all-first ascending head lower (good .ascends))) (alternating-over head lower (good .alternates)) h q
+
+-- A put counts one more, a drop one less.
+module _ (g : Geometry) (fit : InRange g) (p : Pair) where
+  toggled-counts : (n m : ℕ) (b : Bool) (t : Tree) → Good g (record { live = n; tree = t }) → held p t ≡ not b →
+      m + kindCount false (entry p b ∷ []) ≡ n + kindCount true (entry p b ∷ []) → Counted m (toggleHead (entry p b) t)
+  unfolding toggleHead Even Counted
+  toggled-counts n m b [] good h k = absurd (omega (arith, good .levels, fit .levels-least))
+  toggled-counts n m b (head ∷ lower) good h k =
+      let e = entry p b in
+      let even : Even (toggle e head) (e ∷ head) =
+          toggled-even p b head lower (from-ascending head (all-first ascending head lower (good .ascends))) (alternating-over head lower (good .alternates)) h in
+      let counts : Counted n (head ∷ lower) = right-counted n (head ∷ lower) (good .counted) in
+      omega (arith, k, even, counts, count-levels true head lower, count-levels false head lower, count-levels true (toggle e head) lower,
+      count-levels false (toggle e head) lower, count-first true e head, count-first false e head)
+
+  pub put-cascading : (s : State) → Good g s → Words p → held p (s .tree) ≡ false → s .live < most g →
+      Cascading g 0 (record { live = s .live + 1; tree = toggleHead (entry p true) (s .tree) })
+  put-cascading s good w h l =
+      let one = count-normal (entry p true) [] refl in
+      toggled-cascading g fit p true (s .live) (s .live + 1) (s .tree) good w h
+      (toggled-counts (s .live) (s .live + 1) true (s .tree) good h (omega (arith, one .0, one .1, count-none true, count-none false))) (omega (arith, l))
+
+  pub drop-cascading : (s : State) → Good g s → Words p → held p (s .tree) ≡ true →
+      Cascading g 0 (record { live = s .live - 1; tree = toggleHead (entry p false) (s .tree) })
+  drop-cascading s good w h =
+      let one = count-filter (entry p false) [] refl in
+      toggled-cascading g fit p false (s .live) (s .live - 1) (s .tree) good w h
+      (toggled-counts (s .live) (s .live - 1) false (s .tree) good h
+      (omega (arith, one .0, one .1, count-none true, count-none false, held-live g s p good h))) (omega (arith, good .few))

@@ -14,6 +14,8 @@
 --   Cascade     merges one after another
 --   Settle      a cascade to its end, a good state
 --   Edit        an entry toggled into the head of a good state
+--   Calls       put and drop on a good state
+--   Format      the formatted state
 pub mod Pages
 pub mod Fitting
 pub mod Room
@@ -28,3 +30,5 @@ pub mod Within
 pub mod Cascade
 pub mod Settle
 pub mod Edit
+pub mod Calls
+pub mod Format
