@@ -1,23 +1,23 @@
 -- Entries that alternate in kind, pair by pair: kept by an entry toggled into the top level and by the top level joined into the next, which
 -- keeps what the tree holds. Assumes nothing.
-use Prim.Native.Nat.{ℕ, suc, _≤_}
+use Prim.Native.Nat.{ℕ, suc}
 use native.Mathlib.Omega.{arith}
 use mathlib.Core.Path.{_≡_, refl, sym, ap, _∙_}
-use mathlib.Core.Bool.{Bool, true, false, not, _&&_, Bool·beq}
-use mathlib.Core.List.{List, [], _∷_}
+use mathlib.Core.Bool.{Bool, true, false, not, Bool·beq}
+use mathlib.Core.List.{[], _∷_}
 use Rattle.laws.specs.Tests.{and-left, and-right}
-use Rattle.laws.specs.Lists.{all, all-cons}
+use Rattle.laws.specs.Lists.{all}
 use Rattle.laws.specs.Flat.{all-first, all-rest}
 use Rattle.slot.specs.declared.Pair.{Pair}
-use Rattle.slot.specs.Pair.{rank, before, same}
-use Rattle.slot.specs.Order.{before-below, same-level, not-same-apart, below-before, level-same, apart-not-same}
+use Rattle.slot.specs.Pair.{rank, same}
+use Rattle.slot.specs.Order.{before-below, same-level, not-same-apart, level-same, apart-not-same}
 use Rattle.rules.specs.Tree.{Entry, Level, Tree, rankOf}
 use Rattle.rules.specs.Finding.{Met, absent, met, find, held}
 use Rattle.rules.specs.Merging.{toggle, join}
 use Rattle.rules.specs.Sound.{alternating}
 use Rattle.entries.specs.Ascending.{From, from-lower, find-here, find-on, find-above, held-met, held-absent, held-agree}
 use Rattle.good.specs.Rising.{Compared, earlier, equal, later, compared}
-use Rattle.good.specs.Toggle.{toggle-before, toggle-cancels, toggle-after, cancel, find-nothing, above-same}
+use Rattle.good.specs.Toggle.{toggle-before, toggle-cancels, toggle-after, cancel, find-nothing}
 use Rattle.good.specs.Join.{join-from, find-join, find-join-lower}
 
 -- Each entry of a level is normal exactly if its pair is not held below.

@@ -1,7 +1,7 @@
 -- Put and drop on a good state: the state after them is good, and its set is the set before with the pair in it, or out of it. Assumes nothing.
-use Prim.Native.Nat.{ℕ, zero, suc, _+_, _-_, _≤_, _<_}
+use Prim.Native.Nat.{ℕ, _+_, _-_, _<_}
 use native.Mathlib.Omega.{arith}
-use mathlib.Core.Path.{_≡_, refl, sym, ap, _∙_}
+use mathlib.Core.Path.{_≡_, refl, _∙_}
 use mathlib.Core.Bool.{Bool, true, false, not, cond, _&&_, _||_}
 use lib.Dec.{ltb}
 use borrow.Author.Tests.{ltb-true, lt-ltb}
@@ -9,9 +9,8 @@ use Rattle.geometry.specs.declared.Geometry.{Geometry}
 use Rattle.geometry.specs.Geometry.{InRange, bottom, most}
 use Rattle.slot.specs.declared.Pair.{Pair}
 use Rattle.slot.specs.Pair.{same, Words}
-use Rattle.rules.specs.Tree.{Tree}
 use Rattle.rules.specs.Finding.{held}
-use Rattle.rules.specs.Merging.{State, toggleHead, settle, edit, Outcome, refused, done, put, remove}
+use Rattle.rules.specs.Merging.{State, toggleHead, edit, refused, done, put, remove}
 use Rattle.rules.specs.Good.{Good, Cascading}
 use Rattle.good.specs.Settle.{settle-good, settle-held}
 use Rattle.good.specs.Edit.{entry, toggled-holds, put-cascading, drop-cascading}

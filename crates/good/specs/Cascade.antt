@@ -1,18 +1,16 @@
 -- A cascade of merges: each merge hands on what a cascade keeps, the rooms suffice all the way, and where it may end the state is good.
 -- Assumes nothing.
-use Prim.Native.Nat.{ℕ, zero, suc, _+_, _≤_, _<_}
+use Prim.Native.Nat.{ℕ, zero, suc, _≤_, _<_}
 use native.Mathlib.Omega.{arith}
 use mathlib.Core.Path.{_≡_, refl, sym, subst, _∙_}
 use mathlib.Core.Bool.{Bool, true, false}
-use mathlib.Core.List.{[]}
 use lib.ListN.{length}
-use lib.Dec.{ltb, leb, eqb}
+use lib.Dec.{ltb, eqb}
 use borrow.Author.Tests.{ltb-true, ltb-false, leb-true, eqb-true, eqb-false, lt-ltb, le-leb}
 use Rattle.geometry.specs.declared.Geometry.{Geometry}
 use Rattle.geometry.specs.Geometry.{InRange, bottom, capacity, most, total}
-use Rattle.geometry.specs.Bounds.{capacity-least}
 use Rattle.slot.specs.declared.Pair.{Pair}
-use Rattle.rules.specs.Tree.{Level, Tree, level}
+use Rattle.rules.specs.Tree.{Tree, level}
 use Rattle.rules.specs.Finding.{held}
 use Rattle.rules.specs.Merging.{State, join, merge}
 use Rattle.rules.specs.Sound.{withinCapacity}
@@ -124,7 +122,7 @@ module _ (g : Geometry) (fit : InRange g) where
     }
       where
         within : (j : ℕ) → j < g .levels → Stands j i → withinCapacity g j (length (level j (s .tree))) ≡ true
-        within j h (above k) = rw (c .above j k) (empty-within g fit j h)
+        within j h (above k) = rw (c .above j k) (empty-within g fit j)
         within j h (there e) = rw e w
         within j h (below k) = c .below j k h
 

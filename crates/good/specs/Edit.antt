@@ -2,23 +2,22 @@
 -- entry says. Assumes nothing.
 use Prim.Native.Nat.{ℕ, zero, suc, _+_, _-_, _≤_, _<_}
 use native.Mathlib.Omega.{arith}
-use mathlib.Core.Path.{_≡_, refl, sym, ap, _∙_}
+use mathlib.Core.Path.{_≡_, refl, sym, _∙_}
 use mathlib.Core.Bool.{Bool, true, false, not, cond}
-use mathlib.Core.List.{List, [], _∷_}
+use mathlib.Core.List.{[], _∷_}
 use lib.ListN.{length}
-use lib.Dec.{ltb}
 use borrow.Author.Tests.{ltb-true}
-use Rattle.laws.specs.Lists.{all, all-cons}
+use Rattle.laws.specs.Lists.{all-cons}
 use Rattle.laws.specs.Flat.{all-first, all-rest}
 use Rattle.geometry.specs.declared.Geometry.{Geometry}
-use Rattle.geometry.specs.Geometry.{InRange, bottom, capacity, most, total}
+use Rattle.geometry.specs.Geometry.{InRange, capacity, most, total}
 use Rattle.slot.specs.declared.Pair.{Pair}
-use Rattle.slot.specs.Pair.{rank, same, Words}
+use Rattle.slot.specs.Pair.{same, Words}
 use Rattle.slot.specs.Order.{same-level}
 use Rattle.rules.specs.Tree.{Entry, Level, Tree, level}
 use Rattle.rules.specs.Finding.{Met, absent, met, find, held}
 use Rattle.rules.specs.Merging.{State, toggle, toggleHead}
-use Rattle.rules.specs.Sound.{ascending, withinCapacity, alternating, countKind}
+use Rattle.rules.specs.Sound.{ascending, withinCapacity}
 use Rattle.rules.specs.Good.{Good, Cascading, TreeFits}
 use Rattle.entries.specs.Ascending.{From, levelsAscend, from-ascending, all-from-ascending, find-here, held-met, held-absent, held-agree}
 use Rattle.entries.specs.Counts.{kindCount, count-none, count-normal, count-filter, count-first, count-levels}
@@ -74,8 +73,11 @@ module _ (g : Geometry) (fit : InRange g) (p : Pair) (b : Bool) where
     levels = good .levels;
     reaches = omega (arith, fit .levels-least);
     ascends =
-        rw (all-cons ascending (toggle (entry p b) head) lower, ascending-from 0 (toggle (entry p b) head) (toggle-from 0 (entry p b) head (omega arith) rises),
-        all-rest ascending head lower (good .ascends)) refl;
+        rw (
+          all-cons ascending (toggle (entry p b) head) lower,
+          ascending-from 0 (toggle (entry p b) head) (toggle-from 0 (entry p b) head (omega arith) rises),
+          all-rest ascending head lower (good .ascends),
+        ) refl;
     above = λ j k. absurd (omega (arith, k));
     here = λ k. omega (arith, toggle-length (entry p b) head, few);
     at-bottom = λ e. absurd (omega (arith, e, fit .levels-least));
@@ -117,10 +119,20 @@ module _ (g : Geometry) (fit : InRange g) (p : Pair) where
   toggled-counts n m b (head ∷ lower) good h k =
       let e = entry p b in
       let even : Even (toggle e head) (e ∷ head) =
-          toggled-even p b head lower (from-ascending head (all-first ascending head lower (good .ascends))) (alternating-over head lower (good .alternates)) h in
+      toggled-even p b head lower (from-ascending head (all-first ascending head lower (good .ascends))) (alternating-over head lower (good .alternates)) h in
       let counts : Counted n (head ∷ lower) = right-counted n (head ∷ lower) (good .counted) in
-      omega (arith, k, even, counts, count-levels true head lower, count-levels false head lower, count-levels true (toggle e head) lower,
-      count-levels false (toggle e head) lower, count-first true e head, count-first false e head)
+      omega (
+        arith,
+        k,
+        even,
+        counts,
+        count-levels true head lower,
+        count-levels false head lower,
+        count-levels true (toggle e head) lower,
+        count-levels false (toggle e head) lower,
+        count-first true e head,
+        count-first false e head,
+      )
 
   pub put-cascading : (s : State) → Good g s → Words p → held p (s .tree) ≡ false → s .live < most g →
       Cascading g 0 (record { live = s .live + 1; tree = toggleHead (entry p true) (s .tree) })

@@ -1,13 +1,11 @@
 -- The slots of a writing fit their words: pairs that are words, and page numbers far below 2³⁰. Assumes nothing.
 use Prim.Native.Nat.{ℕ, zero, suc, _+_, _*_, _%_, _≤_, _<_, _^_}
 use native.Mathlib.Omega.{arith}
-use mathlib.Core.Path.{_≡_, refl}
 use mathlib.Core.Bool.{Bool, true, false}
 use mathlib.Core.List.{List, [], _∷_, map}
 use lib.ListN.{length, getD}
 use lib.Dec.{eqb}
 use Rattle.laws.specs.Lists.{span}
-use Rattle.slot.specs.declared.Pair.{Pair}
 use Rattle.slot.specs.declared.Slot.{Slot}
 use Rattle.slot.specs.Pair.{least, before, Words, least-fits}
 use Rattle.rules.specs.Tree.{Entry, Level, Tree}

@@ -1,18 +1,18 @@
 -- A formatted store's state is good, and holds nothing. Assumes nothing.
-use Prim.Native.Nat.{ℕ, zero, suc, _≤_, _<_}
+use Prim.Native.Nat.{ℕ}
 use native.Mathlib.Omega.{arith}
-use mathlib.Core.Path.{_≡_, refl, sym, ap, subst, _∙_}
+use mathlib.Core.Path.{_≡_, sym, ap, subst, _∙_}
 use mathlib.Core.Bool.{Bool, true, false}
-use mathlib.Core.List.{List, [], _∷_, _++_, append-nil}
-use lib.ListN.{length, replicate, length-replicate, getD-replicate}
+use mathlib.Core.List.{[], _++_, append-nil}
+use lib.ListN.{replicate, length-replicate, getD-replicate}
 use Rattle.laws.specs.Lists.{all}
 use Rattle.geometry.specs.declared.Geometry.{Geometry}
-use Rattle.geometry.specs.Geometry.{InRange, bottom, capacity, most}
+use Rattle.geometry.specs.Geometry.{InRange}
 use Rattle.slot.specs.declared.Pair.{Pair}
-use Rattle.rules.specs.Tree.{Level, Tree, level}
+use Rattle.rules.specs.Tree.{Level, Tree}
 use Rattle.rules.specs.Finding.{held}
-use Rattle.rules.specs.Merging.{State, formatted}
-use Rattle.rules.specs.Sound.{ascending, withinCapacity, alternating, countKind}
+use Rattle.rules.specs.Merging.{formatted}
+use Rattle.rules.specs.Sound.{ascending, alternating, countKind}
 use Rattle.rules.specs.Good.{Good, TreeFits}
 use Rattle.entries.specs.Counts.{count-no-levels}
 use Rattle.good.specs.Live.{Counted, counted-right}
@@ -28,7 +28,7 @@ unfolding formatted all alternating Counted TreeFits
 formatted-good g fit = record {
   levels = length-replicate (g .levels) [];
   ascends = ap (all ascending) (empties (g .levels)) ∙ ascending-under (g .levels) [];
-  within = λ i h. rw (getD-replicate {A = Level} (g .levels) i [] [] h) (empty-within g fit i h);
+  within = λ i h. rw (getD-replicate {A = Level} (g .levels) i [] [] h) (empty-within g fit i);
   alternates = ap alternating (empties (g .levels)) ∙ alternating-under (g .levels) [];
   counted = counted-right 0 (replicate (g .levels) []) (omega (arith, none true, none false));
   few = omega arith;

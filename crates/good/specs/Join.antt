@@ -2,15 +2,15 @@
 -- Assumes nothing.
 use Prim.Native.Nat.{ℕ, suc, _+_, _≤_}
 use native.Mathlib.Omega.{arith}
-use mathlib.Core.Path.{_≡_, refl, sym, ap, _∙_}
+use mathlib.Core.Path.{_≡_, refl, ap, _∙_}
 use mathlib.Core.Bool.{Bool, true, false}
-use mathlib.Core.List.{List, [], _∷_}
+use mathlib.Core.List.{[], _∷_}
 use lib.ListN.{length}
 use Rattle.slot.specs.declared.Pair.{Pair}
-use Rattle.slot.specs.Pair.{rank, before, same, Words}
+use Rattle.slot.specs.Pair.{rank, before, same}
 use Rattle.slot.specs.Order.{before-below, same-level, below-before}
 use Rattle.rules.specs.Tree.{Entry, Level, rankOf}
-use Rattle.rules.specs.Finding.{Met, absent, met, find}
+use Rattle.rules.specs.Finding.{find}
 use Rattle.rules.specs.Merging.{toggle, join}
 use Rattle.rules.specs.Good.{LevelFits}
 use Rattle.entries.specs.Ascending.{From, from-lower, find-here, find-on, find-above}

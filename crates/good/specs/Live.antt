@@ -1,23 +1,23 @@
 -- Live is the number of pairs held: kept by entries that cancel, and counted by all levels joined into one. Assumes nothing.
-use Prim.Native.Nat.{ℕ, zero, suc, _+_, _≤_}
+use Prim.Native.Nat.{ℕ, suc, _+_, _≤_}
 use native.Mathlib.Omega.{arith}
 use mathlib.Core.Path.{_≡_, refl, sym, ap, _∙_}
 use mathlib.Core.Bool.{Bool, true, false, not}
-use mathlib.Core.List.{List, [], _∷_, _++_}
+use mathlib.Core.List.{[], _∷_, _++_}
 use lib.ListN.{length}
 use borrow.Author.Tests.{eqb-true, eq-eqb}
 use Rattle.laws.specs.Lists.{concat}
 use Rattle.slot.specs.declared.Pair.{Pair}
-use Rattle.slot.specs.Pair.{rank, before, same}
+use Rattle.slot.specs.Pair.{same}
 use Rattle.slot.specs.Order.{before-below, apart-not-same}
 use Rattle.rules.specs.Tree.{Entry, Level, Tree, rankOf}
-use Rattle.rules.specs.Finding.{Met, absent, met, find, held}
+use Rattle.rules.specs.Finding.{met, find, held}
 use Rattle.rules.specs.Merging.{toggle, join}
 use Rattle.rules.specs.Sound.{alternating, countKind, liveRight}
-use Rattle.entries.specs.Ascending.{From, AllFrom, from-lower, find-here, find-on, held-met, held-agree}
+use Rattle.entries.specs.Ascending.{From, AllFrom, find-here, find-on, held-met, held-agree}
 use Rattle.entries.specs.Counts.{kindCount, count-none, count-normal, count-filter, count-joined, count-first, count-levels, count-no-levels}
 use Rattle.good.specs.Rising.{Compared, earlier, equal, later, compared}
-use Rattle.good.specs.Toggle.{toggle-before, toggle-cancels, toggle-after, find-nothing}
+use Rattle.good.specs.Toggle.{toggle-before, toggle-cancels, toggle-after}
 use Rattle.good.specs.Join.{join-from, find-join-lower}
 use Rattle.good.specs.Alternate.{Over, alternating-over, alternating-below, turned, join-over, joined-held}
 
@@ -85,8 +85,17 @@ counted-right live t c = eq-eqb (live + countKind false t) (countKind true t) c
 pub joined-counted : (live m n : ℕ) (es fs : Level) (t : Tree) → From m es → From n fs → Over es (fs ∷ t) → Counted live (es ∷ fs ∷ t) → Counted live (join es fs ∷ t)
 unfolding Even Counted
 joined-counted live m n es fs t a b o c =
-    omega (arith, c, join-even m n es fs t a b o, count-joined true es fs, count-joined false es fs, levels true, levels false,
-    count-levels true (join es fs) t, count-levels false (join es fs) t)
+    omega (
+      arith,
+      c,
+      join-even m n es fs t a b o,
+      count-joined true es fs,
+      count-joined false es fs,
+      levels true,
+      levels false,
+      count-levels true (join es fs) t,
+      count-levels false (join es fs) t,
+    )
   where
     levels : (b : Bool) → countKind b (es ∷ fs ∷ t) ≡ kindCount b es + (kindCount b fs + countKind b t)
     levels b = count-levels b es (fs ∷ t) ∙ ap (λ (n : ℕ). kindCount b es + n) (count-levels b fs t)

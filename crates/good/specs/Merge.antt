@@ -1,17 +1,17 @@
 -- A level merged into the next, all above it being empty: its levels, and that the tree still ascends, fits, alternates, counts as many
 -- and holds what it held. Assumes nothing.
-use Prim.Native.Nat.{ℕ, zero, suc, _+_, _-_, _≤_, _<_}
+use Prim.Native.Nat.{ℕ, zero, suc, _+_, _-_, _<_}
 use native.Mathlib.Omega.{arith}
 use mathlib.Core.Path.{_≡_, refl, sym, ap, subst, _∙_}
 use mathlib.Core.Bool.{Bool, true, false}
-use mathlib.Core.List.{List, [], _∷_, _++_}
-use lib.ListN.{length, getD, drop, replicate, length-append, length-replicate, length-drop, getD-replicate, List·getD-append, drop-of-length-le}
+use mathlib.Core.List.{[], _∷_, _++_}
+use lib.ListN.{length, drop, replicate, length-append, length-replicate, length-drop, getD-replicate, List·getD-append, drop-of-length-le}
 use lib.Seq.{getD-at, getD-drop, getD-append-add}
 use Rattle.laws.specs.Lists.{all, all-cons}
 use Rattle.laws.specs.Flat.{all-first, all-rest}
 use Rattle.slot.specs.declared.Pair.{Pair}
 use Rattle.rules.specs.Tree.{Level, Tree, level}
-use Rattle.rules.specs.Finding.{find, held}
+use Rattle.rules.specs.Finding.{held}
 use Rattle.rules.specs.Merging.{join, merge}
 use Rattle.rules.specs.Sound.{ascending, alternating, countKind}
 use Rattle.rules.specs.Good.{LevelFits, TreeFits}

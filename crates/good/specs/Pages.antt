@@ -1,10 +1,10 @@
 -- How many slots a level's writing takes and in how many pages: at most one internal fence a page. Assumes nothing.
-use Prim.Native.Nat.{ℕ, zero, suc, _+_, _*_, _/_, _%_, _≤_, max}
+use Prim.Native.Nat.{ℕ, suc, _+_, _*_, _/_, _%_, _≤_}
 use native.Mathlib.Omega.{arith}
-use mathlib.Core.Path.{_≡_, refl, sym, ap, _∙_}
+use mathlib.Core.Path.{_≡_, refl, ap, _∙_}
 use mathlib.Core.Bool.{Bool, true, false}
 use mathlib.Core.List.{List, [], _∷_, map}
-use lib.ListN.{length, getD, length-map}
+use lib.ListN.{length, getD}
 use lib.Dec.{eqb}
 use borrow.Author.Tests.{eqb-true, eqb-false}
 use Rattle.laws.specs.Lists.{length-span}

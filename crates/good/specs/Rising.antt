@@ -1,13 +1,13 @@
 -- Pairs compared three ways, and levels that ascend, from bounds on ranks back to the test. Assumes nothing.
 use Prim.Native.Nat.{ℕ, suc, _≤_, _<_}
 use native.Mathlib.Omega.{arith}
-use mathlib.Core.Path.{_≡_, refl, ap, _∙_}
+use mathlib.Core.Path.{_≡_, refl}
 use mathlib.Core.Bool.{Bool, true, false}
-use mathlib.Core.List.{List, [], _∷_}
+use mathlib.Core.List.{[], _∷_}
 use Rattle.slot.specs.declared.Pair.{Pair}
 use Rattle.slot.specs.Pair.{rank, before, same}
-use Rattle.slot.specs.Order.{before-below, not-before-above, below-before, not-same-apart}
-use Rattle.rules.specs.Tree.{Entry, Level, rankOf}
+use Rattle.slot.specs.Order.{not-before-above, below-before, not-same-apart}
+use Rattle.rules.specs.Tree.{Level, rankOf}
 use Rattle.rules.specs.Sound.{ascending}
 use Rattle.entries.specs.Ascending.{From}
 

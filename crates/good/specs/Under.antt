@@ -2,9 +2,9 @@
 use Prim.Native.Nat.{ℕ, zero, suc, _<_}
 use native.Mathlib.Omega.{arith}
 use mathlib.Core.Path.{_≡_, refl, ap, _∙_}
-use mathlib.Core.Bool.{Bool, true, false}
-use mathlib.Core.List.{List, [], _∷_, _++_}
-use lib.ListN.{length, getD, drop, replicate}
+use mathlib.Core.Bool.{Bool}
+use mathlib.Core.List.{[], _∷_, _++_}
+use lib.ListN.{length, drop, replicate}
 use Rattle.laws.specs.Lists.{all, concat}
 use Rattle.slot.specs.declared.Pair.{Pair}
 use Rattle.rules.specs.Tree.{Level, Tree, level}

@@ -20,9 +20,9 @@ module _ (g : Geometry) (i n : ℕ) where
   within-bottom e = rw (eq-eqb i (bottom g) e, withinCapacity) refl
 
 -- An empty level is within.
-pub empty-within : (g : Geometry) → InRange g → (i : ℕ) → i < g .levels → withinCapacity g i 0 ≡ true
+pub empty-within : (g : Geometry) → InRange g → (i : ℕ) → withinCapacity g i 0 ≡ true
 unfolding withinCapacity
-empty-within g fit i h = told (eqb i (bottom g))
+empty-within g fit i = told (eqb i (bottom g))
   where
     told : (b : Bool) → elim b as (λ x. Bool) [ true ↦ leb 0 (most g) | false ↦ ltb 0 (capacity g i) ] ≡ true
     told true = le-leb 0 (most g) (omega arith)
