@@ -110,7 +110,7 @@ module _ (g : Geometry) (fit : InRange g) where
 
   -- It ends at the bottom, or at a level that has fewer entries than its capacity: the state is good.
   module _ (i : ℕ) (s : State) (c : Cascading g i s) where
-    settled-good : withinCapacity g i (length (level i (s .tree))) ≡ true → Good g s
+    pub settled-good : withinCapacity g i (length (level i (s .tree))) ≡ true → Good g s
     settled-good w = record {
       levels = c .levels;
       ascends = c .ascends;

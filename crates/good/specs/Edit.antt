@@ -21,8 +21,7 @@ use Rattle.rules.specs.Sound.{ascending, withinCapacity}
 use Rattle.rules.specs.Good.{Good, Cascading, TreeFits}
 use Rattle.entries.specs.Ascending.{From, levelsAscend, from-ascending, all-from-ascending, find-here, held-met, held-absent, held-agree}
 use Rattle.entries.specs.Counts.{kindCount, count-none, count-normal, count-filter, count-first, count-levels}
-use Rattle.good.specs.Rising.{ascending-from}
-use Rattle.good.specs.Toggle.{toggle-from, toggle-fits, toggle-length, cancel, find-other, find-toggle}
+use Rattle.good.specs.Toggle.{toggle-ascends, toggle-fits, toggle-length, cancel, find-other, find-toggle}
 use Rattle.good.specs.Alternate.{Over, alternating-over, alternating-below, over-alternating, held-rank, turned, met-over, toggle-over}
 use Rattle.good.specs.Live.{Even, toggle-even, Counted, right-counted, counted-right, held-some}
 use Rattle.good.specs.Within.{within-upper}
@@ -75,7 +74,7 @@ module _ (g : Geometry) (fit : InRange g) (p : Pair) (b : Bool) where
     ascends =
         rw (
           all-cons ascending (toggle (entry p b) head) lower,
-          ascending-from 0 (toggle (entry p b) head) (toggle-from 0 (entry p b) head (omega arith) rises),
+          toggle-ascends (entry p b) head (all-first ascending head lower (good .ascends)),
           all-rest ascending head lower (good .ascends),
         ) refl;
     above = λ j k. absurd (omega (arith, k));

@@ -12,16 +12,21 @@ use Rattle.slot.specs.Order.{before-below, same-level, below-before}
 use Rattle.rules.specs.Tree.{Entry, Level, rankOf}
 use Rattle.rules.specs.Finding.{find}
 use Rattle.rules.specs.Merging.{toggle, join}
+use Rattle.rules.specs.Sound.{ascending}
 use Rattle.rules.specs.Good.{LevelFits}
-use Rattle.entries.specs.Ascending.{From, from-lower, find-here, find-on, find-above}
+use Rattle.entries.specs.Ascending.{From, from-ascending, from-lower, find-here, find-on, find-above}
+use Rattle.good.specs.Rising.{ascending-from}
 use Rattle.good.specs.Toggle.{toggle-cancels, toggle-after, toggle-front, toggle-from, toggle-fits, toggle-length, cancel, find-nothing, find-other, above-same, find-toggle}
 
--- The result rises from where both do.
+-- The result rises from where both do, so it ascends.
 pub join-from : (n : ℕ) (es fs : Level) → From n es → From n fs → From n (join es fs)
 unfolding From join
 join-from n [] fs a b = b
 join-from n (e ∷ es) fs a b =
     toggle-from n e (join es fs) (a .0) (join-from n es fs (from-lower n (suc (rankOf e)) es (omega (arith, a .0)) (a .1)) b)
+
+pub join-ascends : (es fs : Level) → ascending es ≡ true → ascending fs ≡ true → ascending (join es fs) ≡ true
+join-ascends es fs a b = ascending-from 0 (join es fs) (join-from 0 es fs (from-ascending es a) (from-ascending fs b))
 
 -- An entry below a whole upper level is the first of the two joined.
 join-under : (f : Entry) (es fs : Level) → From (suc (rankOf f)) es → join es (f ∷ fs) ≡ f ∷ join es fs

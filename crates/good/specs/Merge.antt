@@ -16,8 +16,7 @@ use Rattle.rules.specs.Merging.{join, merge}
 use Rattle.rules.specs.Sound.{ascending, alternating, countKind}
 use Rattle.rules.specs.Good.{LevelFits, TreeFits}
 use Rattle.entries.specs.Ascending.{From, from-ascending}
-use Rattle.good.specs.Rising.{ascending-from}
-use Rattle.good.specs.Join.{join-from, join-fits}
+use Rattle.good.specs.Join.{join-ascends, join-fits}
 use Rattle.good.specs.Alternate.{Over, alternating-over, alternating-below, over-alternating, join-over, joined-held}
 use Rattle.good.specs.Live.{Counted, joined-counted, lone-live}
 use Rattle.good.specs.Under.{held-under, ascending-under, alternating-under, count-under, fits-under, empties-first}
@@ -73,22 +72,19 @@ merge-fits i t a =
 record Neighbours (es fs : Level) (t : Tree) : Type 0 where
   upper : From 0 es
   lower : From 0 fs
-  rest : all ascending t ≡ true
   over : Over es (fs ∷ t)
   next : Over fs t
   below : alternating t ≡ true
 
 neighbours : (es fs : Level) (t : Tree) → all ascending (es ∷ fs ∷ t) ≡ true → alternating (es ∷ fs ∷ t) ≡ true → Neighbours es fs t
 neighbours es fs t a o =
-    let later = all-rest ascending es (fs ∷ t) a in
-    let lower = alternating-below es (fs ∷ t) o in
+    let below = alternating-below es (fs ∷ t) o in
     record {
       upper = from-ascending es (all-first ascending es (fs ∷ t) a);
-      lower = from-ascending fs (all-first ascending fs t later);
-      rest = all-rest ascending fs t later;
+      lower = from-ascending fs (all-first ascending fs t (all-rest ascending es (fs ∷ t) a));
       over = alternating-over es (fs ∷ t) o;
-      next = alternating-over fs t lower;
-      below = alternating-below fs t lower;
+      next = alternating-over fs t below;
+      below = alternating-below fs t below;
     }
 
 -- What the merge keeps.
@@ -105,16 +101,18 @@ module _ (i : ℕ) (t : Tree) (h : suc i < length t) (above : (j : ℕ) → j < 
   parts : t ≡ replicate i [] ++ es ∷ fs ∷ u
   parts = empties-first i t h above
 
+  ascends : all ascending (es ∷ fs ∷ u) ≡ true
+  ascends = sym (ap (all ascending) parts ∙ ascending-under i (es ∷ fs ∷ u)) ∙ a
+
   two : Neighbours es fs u
-  two =
-      neighbours es fs u (sym (ap (all ascending) parts ∙ ascending-under i (es ∷ fs ∷ u)) ∙ a)
-      (sym (ap alternating parts ∙ alternating-under i (es ∷ fs ∷ u)) ∙ o)
+  two = neighbours es fs u ascends (sym (ap alternating parts ∙ alternating-under i (es ∷ fs ∷ u)) ∙ o)
 
   pub merge-ascends : all ascending (merge i t) ≡ true
   unfolding merge
   merge-ascends =
-      ascending-under (suc i) (join es fs ∷ u) ∙
-      rw (all-cons ascending (join es fs) u, ascending-from 0 (join es fs) (join-from 0 es fs (two .upper) (two .lower)), two .rest) refl
+      let lower = all-rest ascending es (fs ∷ u) ascends in
+      let joined = join-ascends es fs (all-first ascending es (fs ∷ u) ascends) (all-first ascending fs u lower) in
+      ascending-under (suc i) (join es fs ∷ u) ∙ rw (all-cons ascending (join es fs) u, joined, all-rest ascending fs u lower) refl
 
   pub merge-alternates : alternating (merge i t) ≡ true
   unfolding merge

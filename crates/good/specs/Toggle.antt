@@ -12,9 +12,10 @@ use Rattle.slot.specs.Order.{before-below, same-level, not-same-apart, below-be
 use Rattle.rules.specs.Tree.{Entry, Level, rankOf}
 use Rattle.rules.specs.Finding.{Met, absent, met, find}
 use Rattle.rules.specs.Merging.{toggle}
+use Rattle.rules.specs.Sound.{ascending}
 use Rattle.rules.specs.Good.{LevelFits}
-use Rattle.entries.specs.Ascending.{From, from-lower, find-here, find-on, find-above}
-use Rattle.good.specs.Rising.{Compared, earlier, equal, later, compared}
+use Rattle.entries.specs.Ascending.{From, from-ascending, from-lower, find-here, find-on, find-above}
+use Rattle.good.specs.Rising.{Compared, earlier, equal, later, compared, ascending-from}
 
 -- Where the entry comes to stand: before the first entry, in place of none with it, or further on.
 module _ (e f : Entry) (fs : Level) where
@@ -42,7 +43,7 @@ unfolding From toggle
 toggle-front e [] a = refl
 toggle-front e (f ∷ fs) a = toggle-before e f fs (below-before (e .pair) (f .pair) (a .0))
 
--- The level still rises, its pairs still are words, and it has one entry more at most.
+-- The level still rises, so it ascends; its pairs still are words, and it has one entry more at most.
 pub toggle-from : (n : ℕ) (e : Entry) (fs : Level) → n ≤ rankOf e → From n fs → From n (toggle e fs)
 unfolding From toggle
 toggle-from n e [] h a = (h, tt)
@@ -53,6 +54,9 @@ toggle-from n e (f ∷ fs) h a = stands (compared (e .pair) (f .pair)) (toggle-f
     stands (earlier b) rest = rw (toggle-before e f fs b) (h, (before-below (e .pair) (f .pair) b, a .1))
     stands (equal s) rest = rw (toggle-cancels e f fs s) (from-lower n (suc (rankOf f)) fs (omega (arith, a .0)) (a .1))
     stands (later l) rest = rw (toggle-after e f fs l) (a .0, rest (before-below (f .pair) (e .pair) l) (a .1))
+
+pub toggle-ascends : (e : Entry) (fs : Level) → ascending fs ≡ true → ascending (toggle e fs) ≡ true
+toggle-ascends e fs a = ascending-from 0 (toggle e fs) (toggle-from 0 e fs (omega arith) (from-ascending fs a))
 
 pub toggle-fits : (e : Entry) (fs : Level) → Words (e .pair) → LevelFits fs → LevelFits (toggle e fs)
 unfolding LevelFits toggle
