@@ -3,3 +3,4 @@ pub mod Filling
 pub mod Refilling
 pub mod Laid
 pub mod Merged
+pub mod Settled
