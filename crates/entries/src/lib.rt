@@ -83,7 +83,7 @@ pub fn runs_of(store: &[u32], g: Geometry, plan: Plan) -> Runs
 }
 
 // The run of a level below the head that begins at a place.
-fn level_run(store: &[u32], g: Geometry, level: u32, start: u32) -> Run
+pub fn level_run(store: &[u32], g: Geometry, level: u32, start: u32) -> Run
     requires { ⌜ (level ≤ 3) × (9 ≤ length (now store)) ⌝ }
     requires { ⌜ start ≡ levelStart g level ⌝ }
     ensures { λ r. ⌜ r ≡ levelRun g (now (store .entry)) level ⌝ }

@@ -1,12 +1,14 @@
 -- The words after a level is written anew, after levels are rebuilt with fences alone, after a merge, and after settling; each as a function
 -- of the words before, with what it asks of them. Assumes nothing.
 use Prim.Native.Nat.{ℕ, zero, suc, _+_, _≤_}
-use mathlib.Core.Path.{_≡_}
-use mathlib.Core.Bool.{Bool, true, false}
+use native.Mathlib.Omega.{arith}
+use mathlib.Core.Path.{_≡_, refl}
+use mathlib.Core.Bool.{Bool, true, false, not}
 use mathlib.Core.List.{List, []}
 use lib.ListN.{length, set}
 use lib.Seq.{sets}
-use lib.Dec.{ltb}
+use lib.Dec.{leb, ltb}
+use borrow.Author.Tests.{le-leb, lt-leb, ltb-true, ltb-false}
 use Rattle.geometry.specs.declared.Geometry.{Geometry}
 use Rattle.geometry.specs.Geometry.{capacity, room}
 use Rattle.geometry.specs.Places.{pagesWord, headCountWord, headStart, headRoom, levelStart}
@@ -59,6 +61,11 @@ unfoldable pub runAt : Geometry → List ℕ → ℕ → Run
 runAt g w zero = headRun g
 runAt g w (suc i) = levelRun g w (suc i)
 
+pub level-at : (g : Geometry) (w : List ℕ) (i : ℕ) → 1 ≤ i → levelRun g w i ≡ runAt g w i
+unfolding runAt
+level-at g w zero l = absurd (omega arith)
+level-at g w (suc i) l = refl
+
 abbrev pub entriesAt : Geometry → List ℕ → ℕ → Level
 entriesAt g w i = entriesIn w (runAt g w i)
 
@@ -94,6 +101,14 @@ after pages o = outcome (o .words) (o .deepest) (pages + o .pages)
 -- Whether level i holds fewer than its capacity.
 unfoldable pub roomAt : Geometry → List ℕ → ℕ → Bool
 roomAt g w i = ltb (length (entriesAt g w i)) (capacity g i)
+
+pub full-told : (g : Geometry) (w : List ℕ) (i cap n : ℕ) → cap ≡ capacity g i → n ≡ length (entriesAt g w i) → leb cap n ≡ not (roomAt g w i)
+unfolding roomAt
+full-told g w i cap n e q = rw (← e, ← q) (chosen (ltb n cap) refl)
+  where
+    chosen : (b : Bool) → ltb n cap ≡ b → leb cap n ≡ not (ltb n cap)
+    chosen true t = rw (t, lt-leb cap n (ltb-true n cap t)) refl
+    chosen false t = rw (t, le-leb cap n (ltb-false n cap t)) refl
 
 unfoldable pub settled : Geometry → ℕ → ℕ → List ℕ → Outcome
 settled g zero i w = outcome w i 0

@@ -4,3 +4,5 @@ pub mod Refilling
 pub mod Laid
 pub mod Merged
 pub mod Settled
+pub mod Head
+pub mod Runs

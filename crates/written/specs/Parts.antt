@@ -27,7 +27,7 @@ slot-place : (g : Geometry) (i p : ℕ) → slotPlace g i p 0 ≡ levelStart g i
 unfolding slotPlace pagePlace
 slot-place g i p = omega arith
 
-first-at : (g : Geometry) (w : List ℕ) (i : ℕ) → firstAt g w i ≡ firstPair w (levelStart g i)
+pub first-at : (g : Geometry) (w : List ℕ) (i : ℕ) → firstAt g w i ≡ firstPair w (levelStart g i)
 unfolding firstAt firstPair
 first-at g w i = fun-ext λ p. ap (λ (n : ℕ). (slotAt w n) .pair) (slot-place g i p)
 
@@ -53,7 +53,7 @@ no-fences first = refl
 none-below : (g : Geometry) (w : List ℕ) (i : ℕ) → i ≡ bottom g → pagesOf g w (suc i) ≡ 0
 none-below g w i e = pages-none g w (suc i) (le-ltb (suc i) (g .levels) (omega arith))
 
-level-laid : (g : Geometry) (w : List ℕ) (i : ℕ) (es : Level) →
+pub level-laid : (g : Geometry) (w : List ℕ) (i : ℕ) (es : Level) →
     levelLaid g w i es ≡ laidOver (not (eqb i (bottom g))) (firstPair w (levelStart g (suc i))) (pagesOf g w (suc i)) es
 unfolding levelLaid laidOver
 level-laid g w i es = chosen (eqb i (bottom g)) refl
