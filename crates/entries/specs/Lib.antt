@@ -1,6 +1,7 @@
 -- The index entries of a run in lent words, from a cursor on (Run), the runs of a store's levels (Levels), and levels
--- that ascend (Ascending), as the tests of soundness show (Ready).
+-- that ascend (Ascending), as the tests of soundness show (Ready); entries counted by kind (Counts).
 pub mod Run
 pub mod Levels
 pub mod Ascending
 pub mod Ready
+pub mod Counts

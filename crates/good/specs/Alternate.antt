@@ -38,6 +38,10 @@ unlike-again true false e = refl
 unlike-again false true e = refl
 unlike-again false false e = e
 
+pub turned : (a b : Bool) → a ≡ not b → b ≡ not a
+turned a true h = rw h refl
+turned a false h = rw h refl
+
 abbrev testOver : Tree → Entry → Bool
 testOver t e = not (Bool·beq (e .normal) (held (e .pair) t))
 
@@ -121,14 +125,6 @@ join-over m n (e ∷ es) fs t a b o u =
     (λ h. o .0 ∙ ap not (held-absent (e .pair) fs t (sym (find-join-lower (e .pair) n es fs (a .1) b) ∙ h)))
 
 -- And the tree holds what it held: of two entries that cancel the upper is as the pair is held below both.
-pub turned : (a b : Bool) → a ≡ not b → b ≡ not a
-turned a true h = rw h refl
-turned a false h = rw h refl
-
-twice-unlike : (a b c : Bool) → a ≡ not b → b ≡ not c → c ≡ a
-twice-unlike a b true h k = sym (h ∙ ap not k)
-twice-unlike a b false h k = sym (h ∙ ap not k)
-
 pub joined-held : (p : Pair) (m n : ℕ) (es fs : Level) (t : Tree) → From m es → From n fs → Over es (fs ∷ t) → Over fs t →
     held p (join es fs ∷ t) ≡ held p (es ∷ fs ∷ t)
 unfolding cancel
@@ -142,4 +138,4 @@ joined-held p m n es fs t a b o u = told (find p es) (find p fs) refl refl
     told (met x) absent h k = held-met p (join es fs) t x (joined (met x) absent h k) ∙ sym (held-met p es (fs ∷ t) x h)
     told (met x) (met y) h k =
         let upper : x ≡ not y = met-over p es (fs ∷ t) x o h ∙ ap not (held-met p fs t y k) in
-        held-absent p (join es fs) t (joined (met x) (met y) h k) ∙ twice-unlike x y (held p t) upper (met-over p fs t y u k) ∙ sym (held-met p es (fs ∷ t) x h)
+        held-absent p (join es fs) t (joined (met x) (met y) h k) ∙ turned y (held p t) (met-over p fs t y u k) ∙ sym upper ∙ sym (held-met p es (fs ∷ t) x h)

@@ -131,3 +131,26 @@ module _ (g : Geometry) (fit : InRange g) where
 
     pub settled-bottom : i ≡ bottom g → Good g s
     settled-bottom e = settled-good (within-bottom g i (length (level i (s .tree))) e ∙ le-leb (length (level i (s .tree))) (most g) (c .at-bottom e))
+
+  -- A good state is one where a cascade may begin, so it keeps to its rooms.
+  pub good-cascading : (s : State) → Good g s → Cascading g 0 s
+  unfolding total
+  good-cascading s good = record {
+    levels = good .levels;
+    reaches = omega (arith, fit .levels-least);
+    ascends = good .ascends;
+    above = λ j h. absurd (omega (arith, h));
+    here = λ h.
+        let few : length (level 0 (s .tree)) < capacity g 0 =
+        ltb-true (length (level 0 (s .tree))) (capacity g 0) (sym (within-upper g 0 (length (level 0 (s .tree))) h) ∙ good .within 0 (omega (arith, fit .levels-least))) in
+        omega (arith, few);
+    at-bottom = λ e. absurd (omega (arith, e, fit .levels-least));
+    below = λ j h l. good .within j l;
+    alternates = good .alternates;
+    counted = good .counted;
+    few = good .few;
+    fit = good .fit;
+  }
+
+  pub good-roomy : (s : State) → Good g s → Roomy g (s .tree)
+  good-roomy s good = cascading-roomy 0 s (good-cascading s good)

@@ -36,6 +36,17 @@ unfolding levelsAscend
 held-live g s p good h =
     held-some (s .live) (s .tree) p (all-from-ascending (s .tree) (good .ascends)) (good .alternates) (right-counted (s .live) (s .tree) (good .counted)) h
 
+-- A good state's head ascends, and stands over the levels below.
+module _ (g : Geometry) (n : ℕ) (head : Level) (lower : Tree) (good : Good g (record { live = n; tree = head ∷ lower })) where
+  head-ascends : ascending head ≡ true
+  head-ascends = all-first ascending head lower (good .ascends)
+
+  head-rises : From 0 head
+  head-rises = from-ascending head head-ascends
+
+  head-over : Over head lower
+  head-over = alternating-over head lower (good .alternates)
+
 -- A head over the levels below, and the entry of a pair that is held just if the entry is a filter.
 module _ (p : Pair) (b : Bool) (head : Level) (lower : Tree) (a : From 0 head) (o : Over head lower) (h : held p (head ∷ lower) ≡ not b) where
   toggled-over : Over (toggle (entry p b) head) lower
@@ -74,25 +85,19 @@ module _ (g : Geometry) (fit : InRange g) (p : Pair) (b : Bool) where
     ascends =
         rw (
           all-cons ascending (toggle (entry p b) head) lower,
-          toggle-ascends (entry p b) head (all-first ascending head lower (good .ascends)),
+          toggle-ascends (entry p b) head (head-ascends g n head lower good),
           all-rest ascending head lower (good .ascends),
         ) refl;
     above = λ j k. absurd (omega (arith, k));
     here = λ k. omega (arith, toggle-length (entry p b) head, few);
     at-bottom = λ e. absurd (omega (arith, e, fit .levels-least));
     below = below;
-    alternates = over-alternating (toggle (entry p b) head) lower (toggled-over p b head lower rises over h) (alternating-below head lower (good .alternates));
+    alternates = over-alternating (toggle (entry p b) head) lower (toggled-over p b head lower (head-rises g n head lower good) (head-over g n head lower good) h) (alternating-below head lower (good .alternates));
     counted = counted-right m (toggle (entry p b) head ∷ lower) c;
     few = l;
     fit = (toggle-fits (entry p b) head w (good .fit .0), good .fit .1);
   }
     where
-      rises : From 0 head
-      rises = from-ascending head (all-first ascending head lower (good .ascends))
-
-      over : Over head lower
-      over = alternating-over head lower (good .alternates)
-
       few : length head < capacity g 0
       few =
           ltb-true (length head) (capacity g 0)
@@ -107,7 +112,7 @@ module _ (g : Geometry) (fit : InRange g) (p : Pair) (b : Bool) where
   unfolding toggleHead
   toggled-holds n [] good h q = absurd (omega (arith, good .levels, fit .levels-least))
   toggled-holds n (head ∷ lower) good h q =
-      toggled-held p b head lower (from-ascending head (all-first ascending head lower (good .ascends))) (alternating-over head lower (good .alternates)) h q
+      toggled-held p b head lower (head-rises g n head lower good) (head-over g n head lower good) h q
 
 -- A put counts one more, a drop one less.
 module _ (g : Geometry) (fit : InRange g) (p : Pair) where
@@ -117,8 +122,7 @@ module _ (g : Geometry) (fit : InRange g) (p : Pair) where
   toggled-counts n m b [] good h k = absurd (omega (arith, good .levels, fit .levels-least))
   toggled-counts n m b (head ∷ lower) good h k =
       let e = entry p b in
-      let even : Even (toggle e head) (e ∷ head) =
-      toggled-even p b head lower (from-ascending head (all-first ascending head lower (good .ascends))) (alternating-over head lower (good .alternates)) h in
+      let even : Even (toggle e head) (e ∷ head) = toggled-even p b head lower (head-rises g n head lower good) (head-over g n head lower good) h in
       let counts : Counted n (head ∷ lower) = right-counted n (head ∷ lower) (good .counted) in
       omega (
         arith,

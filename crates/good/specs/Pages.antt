@@ -11,7 +11,7 @@ use Rattle.laws.specs.Lists.{length-span}
 use Rattle.slot.specs.declared.Slot.{Slot}
 use Rattle.slot.specs.Pair.{before}
 use Rattle.rules.specs.Tree.{Entry, Level, Tree}
-use Rattle.rules.specs.Level.{index, internal, fenceKind, pagesFor, firstOf, fenceOf, fences, place, weave, paged, over, layOn, laid}
+use Rattle.rules.specs.Level.{index, internal, fenceKind, pagesFor, firstOf, fenceOf, fences, place, weave, paged, over, layOn, laid, headOn}
 
 -- Entries and fences woven are all of both.
 place-length : (e : Entry) (rest : List Slot → List Slot) (n : ℕ) → ((fs : List Slot) → length (rest fs) ≡ n + length fs) → (fs : List Slot) →
@@ -79,7 +79,7 @@ pub pages-within : (m n : ℕ) → 1 ≤ n → m ≤ n → pagesFor m ≤ (n + 2
 unfolding pagesFor
 pages-within m n h l = omega arith
 
--- A level above the bottom lies over the level below it, and there are as many rows of slots as levels.
+-- There are as many rows of slots as levels; a level above the bottom lies over the level below it, and so does the head.
 pub laid-length : (t : Tree) → length (laid t) ≡ length t
 unfolding laid layOn
 laid-length [] = refl
@@ -96,6 +96,14 @@ laid-above es ds t = laid-on (laid (ds ∷ t)) (laid-length (ds ∷ t))
     laid-on : (ss : List (List Slot)) → length ss ≡ suc (length t) → layOn es ss ≡ paged 0 0 (over es (getD ss 0 [])) ∷ ss
     laid-on [] h = absurd (omega (arith, h))
     laid-on (below ∷ ss) h = refl
+
+pub head-over : (es ds : Level) (t : Tree) → headOn es (laid (ds ∷ t)) ≡ over es (getD (laid (ds ∷ t)) 0 [])
+unfolding headOn
+head-over es ds t = head-on (laid (ds ∷ t)) (laid-length (ds ∷ t))
+  where
+    head-on : (ss : List (List Slot)) → length ss ≡ suc (length t) → headOn es ss ≡ over es (getD ss 0 [])
+    head-on [] h = absurd (omega (arith, h))
+    head-on (below ∷ ss) h = refl
 
 pub laid-bottom : (es : Level) → laid (es ∷ []) ≡ map index es ∷ []
 unfolding laid layOn

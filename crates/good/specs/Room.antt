@@ -16,8 +16,13 @@ use Rattle.slot.specs.declared.Slot.{Slot}
 use Rattle.rules.specs.Tree.{Level, Tree, level}
 use Rattle.rules.specs.Level.{index, pagesFor, paged, over, laid, headOn, slotsOf}
 use Rattle.rules.specs.Good.{TreeFits, Roomy, SlotsFit, Fits}
-use Rattle.good.specs.Pages.{over-length, paged-pages, pages-least, pages-within, laid-length, laid-above, laid-bottom}
+use Rattle.good.specs.Pages.{over-length, paged-pages, pages-least, pages-within, laid-length, laid-above, laid-bottom, head-over}
 use Rattle.good.specs.Fitting.{over-fits, laid-fits}
+
+-- A level without slots has one page.
+no-slots : pagesFor 0 ≤ 2 ^ 30
+unfolding pagesFor
+no-slots = omega arith
 
 module _ (g : Geometry) (fit : InRange g) where
   -- The bottom's pages, and those of a level over a level that has its room.
@@ -53,23 +58,11 @@ module _ (g : Geometry) (fit : InRange g) where
           (rw (add-zero (suc i)) at (below 0 (omega arith))))
       row (suc k) c below = rw (laid-above es ds t, add-suc i k, ← suc-add i k) (below k (omega arith))
 
-  -- A level without slots has one page.
-  no-slots : pagesFor 0 ≤ 2 ^ 30
-  unfolding pagesFor
-  no-slots = omega arith
-
-  -- The head's slots are its entries and a fence for each page of level 1.
-  head-over : (es ds : Level) (t : Tree) → headOn es (laid (ds ∷ t)) ≡ over es (getD (laid (ds ∷ t)) 0 [])
-  unfolding headOn
-  head-over es ds t = on (laid (ds ∷ t)) (laid-length (ds ∷ t))
-    where
-      on : (ss : List (List Slot)) → length ss ≡ suc (length t) → headOn es ss ≡ over es (getD ss 0 [])
-      on [] h = absurd (omega (arith, h))
-      on (below ∷ ss) h = refl
-
+  -- Level 1 is the first of the lower levels.
   one-more : (j : ℕ) → 1 + j ≡ suc j
   one-more j = omega arith
 
+  -- The head's slots are its entries and a fence for each page of level 1; each lower level has its room.
   pub roomy-fits : (t : Tree) → Roomy g t → TreeFits t → Fits g (slotsOf t)
   unfolding slotsOf TreeFits SlotsFit total headRoom
   roomy-fits [] r a = absurd (omega (arith, r .levels, fit .levels-least))

@@ -33,7 +33,11 @@ pub record Words (p : Pair) : Type 0 where
   pub badge-fits : p .badge < 4294967296
   pub floor-fits : p .floor .0 < 4294967296
 
--- No pair comes before the least one.
+-- The least pair is one of words, and no pair comes before it.
+pub least-fits : Words least
+unfolding least
+least-fits = record { badge-fits = omega arith; floor-fits = omega arith }
+
 pub least-first : rank least ≡ 0
 unfolding rank least
 least-first = refl
