@@ -26,7 +26,7 @@ use Rattle.page.specs.Form.{at-most-first}
 use Rattle.page.specs.Tell.{fenceBack, fence-back-here, fence-back-on, metIn}
 
 -- A legal slot over a level without pages is no fence.
-no-fence : (inner : Bool) (s : Slot) → legal inner 0 s ≡ true → fenceKind (s .kind) ≡ false
+pub no-fence : (inner : Bool) (s : Slot) → legal inner 0 s ≡ true → fenceKind (s .kind) ≡ false
 unfolding legal
 no-fence inner s e = by-kind (s .kind) e
   where

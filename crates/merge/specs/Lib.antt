@@ -1,0 +1,6 @@
+-- The words after a level is filled, levels are rebuilt, merged and settled (Filling).
+pub mod Filling
+pub mod Refilling
+pub mod Laid
+pub mod Merged
+pub mod Settled
