@@ -43,7 +43,7 @@ module _ (e : Entry) where
   abbrev reached : List Slot → ℕ
   reached row = reach own row
 
-  -- A row where all entries and the first fence are above the pair.
+  -- Where all entries and the first fence are above the pair, the whole row is.
   above-alone : (es : Level) → From (suc (rank own)) es → inOrder (weave es []) ≡ true → reached (weave es []) ≡ 0
   unfolding From weave place index
   above-alone [] a o = reach-none own
@@ -68,6 +68,7 @@ module _ (e : Entry) where
   Edited absent row now = now ≡ take (reached row) row ++ index e ∷ drop (reached row) row
   Edited (met b) row now = (1 ≤ reached row) × (now ≡ take (reached row - 1) row ++ drop (reached row) row)
 
+  -- A row that is above the pair; the pair's own entry before such a row; and a slot at most the pair before any row.
   edited-front : (row : List Slot) → reached row ≡ 0 → Edited absent row (index e ∷ row)
   unfolding Edited
   edited-front row z = rw z refl
@@ -85,7 +86,7 @@ module _ (e : Entry) where
       let n : suc (reached row) - 1 ≡ suc (reached row - 1) = omega (arith, k .0) in
       rw (reach-on own s row h, n) (omega arith, ap (λ (l : List Slot). s ∷ l) (k .1))
 
-  -- All entries of the level are above it.
+  -- Where all entries are above the pair, the new one stands before them.
   edits-front : (es : Level) → From (suc (rank own)) es → (fs : List Slot) → inOrder (weave es fs) ≡ true → Edited absent (weave es fs) (place e (weave es) fs)
   unfolding place
   edits-front es a [] o = edited-front (weave es []) (above-alone es a o)
@@ -99,13 +100,14 @@ module _ (e : Entry) where
           let o′ : inOrder (f ∷ weave es fs) ≡ true = rw q at o in
           rw (q, place-behind e (weave es) f fs b) (edited-on absent f (weave es fs) (place e (weave es) fs) b (more (order-rest f (weave es fs) o′)))
 
+  -- What is above an entry of the pair is above the pair, and an entry before the pair is at most it.
   above-own : (x : Entry) (es : Level) → same own (x .pair) ≡ true → From (suc (rankOf x)) es → From (suc (rank own)) es
   above-own x es s a = from-lower (suc (rank own)) (suc (rankOf x)) es (omega (arith, same-level own (x .pair) s)) a
 
   not-below : (x : Entry) → before (x .pair) own ≡ true → before own (x .pair) ≡ false
   not-below x b = above-not-before own (x .pair) (omega (arith, before-below (x .pair) own b))
 
-  -- The first entry is that of the pair.
+  -- Where the first entry is that of the pair, it goes.
   edits-own : (b : Bool) (x : Entry) (es : Level) → same own (x .pair) ≡ true → From (suc (rankOf x)) es → (fs : List Slot) →
       inOrder (place x (weave es) fs) ≡ true → Edited (met b) (place x (weave es) fs) (weave es fs)
   unfolding place
@@ -130,7 +132,7 @@ module _ (e : Entry) where
           (edited-on (met b) f (place x (weave es) fs) (weave es fs) (above-not-before own (f .pair) (omega (arith, k, level)))
           (more (order-rest f (place x (weave es) fs) o′)))
 
-  -- The first entry is before it, and the edit is among the others.
+  -- Where the first entry is before the pair, it stays, and the edit is among the others.
   edits-behind : (m : Met) (x : Entry) (rest now : List Slot → List Slot) → before (x .pair) own ≡ true →
       ((fs : List Slot) → inOrder (rest fs) ≡ true → Edited m (rest fs) (now fs)) → (fs : List Slot) → inOrder (place x rest fs) ≡ true →
       Edited m (place x rest fs) (place x now fs)
@@ -151,7 +153,7 @@ module _ (e : Entry) where
           rw (place-behind x rest f fs c, place-behind x now f fs c)
           (edited-on m f (place x rest fs) (place x now fs) q (on (order-rest f (place x rest fs) o′)))
 
-  -- So it is on every row.
+  -- So it is with every level that ascends.
   toggle-edits : (n : ℕ) (es : Level) → From n es → (fs : List Slot) → inOrder (weave es fs) ≡ true →
       Edited (find own es) (weave es fs) (weave (toggle e es) fs)
   unfolding From weave toggle
