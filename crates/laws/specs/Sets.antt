@@ -5,8 +5,8 @@ use native.Mathlib.Omega.{arith}
 use mathlib.Core.Path.{_≡_, refl, sym, ap, _∙_}
 use mathlib.Core.Logic.{_≢_}
 use mathlib.Core.List.{List, [], _∷_, _++_}
-use lib.ListN.{length, getD, set, take, drop}
-use lib.Seq.{sets, slice, set-comm, getD-set-other, take-set-lt, drop-set-lt}
+use lib.ListN.{length, getD, set, take, drop, length-append, length-take, length-drop, take-append-drop}
+use lib.Seq.{sets, slice, sets-eq, set-comm, getD-set-other, take-add, take-set-lt, drop-set-lt}
 
 module _ {A : Type 0} where
   -- A store before a run of stores may be made first.
@@ -28,6 +28,21 @@ module _ {A : Type 0} where
   sets-behind l i (x ∷ xs) ys =
       let e : i + suc (length xs) ≡ suc i + length xs = omega arith in
       rw e (sets-behind (set l i x) (suc i) xs ys)
+
+  -- What stands already may be stored again: of three parts stored side by side, the middle one alone is new.
+  pub sets-standing : (l : List A) (i : ℕ) (vs : List A) → take (length vs) (drop i l) ≡ vs → sets l i vs ≡ l
+  sets-standing l i [] e = refl
+  sets-standing l i (v ∷ vs) e =
+      let n : ℕ = suc (length vs) in
+      let inside : i + n ≤ length l = omega (arith, ap length e, length-take n (drop i l), length-drop i l) in
+      sets-eq (v ∷ vs) l i inside ∙ ap (λ (m : List A). take i l ++ m ++ drop (i + n) l) (sym e) ∙ rw (← take-add i n l) (take-append-drop (i + n) l)
+
+  pub sets-middle : (l : List A) (i : ℕ) (xs ys zs : List A) → take (length xs) (drop i l) ≡ xs →
+      take (length zs) (drop (i + length xs + length ys) l) ≡ zs → sets l i (xs ++ ys ++ zs) ≡ sets l (i + length xs) ys
+  sets-middle l i xs ys zs e f =
+      let n : i + length (xs ++ ys) ≡ i + length xs + length ys = omega (arith, length-append xs ys) in
+      sym (sets-before l i (xs ++ ys) zs) ∙
+      rw (n, sets-standing l (i + length xs + length ys) zs f, ← sets-behind l i xs ys, sets-standing l i xs e) refl
 
   -- What stands before or behind a run of stores stays.
   pub getD-sets-before : (l : List A) (i j : ℕ) (vs : List A) (d : A) → j < i → getD (sets l i vs) j d ≡ getD l j d

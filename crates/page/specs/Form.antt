@@ -217,3 +217,9 @@ module _ (asked : Pair) where
   pub at-most-first : (ss : List Slot) → inOrder ss ≡ true →
       passing (λ s. not (before asked (s .pair))) ss ≡ take (length (passing (λ s. not (before asked (s .pair))) ss)) ss
   at-most-first ss e = first-ones least true ss (sym (order-from-least ss) ∙ e)
+
+  -- Where the first slot is above the pair asked, all are.
+  pub none-at-most : (s : Slot) (ss : List Slot) → inOrder (s ∷ ss) ≡ true → before asked (s .pair) ≡ true →
+      passing (λ s. not (before asked (s .pair))) (s ∷ ss) ≡ []
+  none-at-most s ss e h =
+      passing-no (upTo asked) s ss (ap not h) ∙ above-stays (s .pair) (fenceKind (s .kind)) ss (sym (chain-order s ss) ∙ e) h
