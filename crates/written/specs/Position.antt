@@ -120,17 +120,17 @@ module _ (w : List ℕ) (row : Row) where
   wanted-last n r p h = rw (le-ltb r (row .slots) h) refl
 
   module _ (n r p : ℕ) (some : r < row .slots) where
-    pub wanted-fence : entryNext (row .fenced) (firstBelow w row) (row .below) p (rowSlot w row r .pair) ≡ false →
+    pub wanted-fence : entryNext (firstBelow w row) (row .below) p (rowSlot w row r .pair) ≡ false →
         fenceOf (firstBelow w row) p ≡ wantedAt w row n r p
     unfolding wantedAt entryAt wanted
     wanted-fence e = rw (lt-ltb r (row .slots) some) (rw e refl)
 
-    pub wanted-inner : entryNext (row .fenced) (firstBelow w row) (row .below) p (rowSlot w row r .pair) ≡ true → fencedAt (row .fenced) n ≡ true →
+    pub wanted-inner : entryNext (firstBelow w row) (row .below) p (rowSlot w row r .pair) ≡ true → fencedAt (row .fenced) n ≡ true →
         internal (rowSlot w row r .pair) (p - 1) ≡ wantedAt w row n r p
     unfolding wantedAt entryAt wanted
     wanted-inner e f = rw (lt-ltb r (row .slots) some) (rw (e, f) refl)
 
-    pub wanted-index : entryNext (row .fenced) (firstBelow w row) (row .below) p (rowSlot w row r .pair) ≡ true → fencedAt (row .fenced) n ≡ false →
+    pub wanted-index : entryNext (firstBelow w row) (row .below) p (rowSlot w row r .pair) ≡ true → fencedAt (row .fenced) n ≡ false →
         index (entryOf (rowSlot w row r)) ≡ wantedAt w row n r p
     unfolding wantedAt entryAt wanted
     wanted-index e f = rw (lt-ltb r (row .slots) some) (rw (e, f) refl)

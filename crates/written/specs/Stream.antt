@@ -114,6 +114,20 @@ page-on n = omega arith
 unfoldable pub fencedAt : Bool → ℕ → Bool
 fencedAt inner n = inner && eqb (n % 21) 0
 
+module _ (first : ℕ → Pair) (below : ℕ) where
+  -- An entry comes next where no fence is left, or the next one is above it.
+  unfoldable pub entryNext : ℕ → Pair → Bool
+  entryNext p a = leb below p || before a (fenceOf first p .pair)
+
+  -- Where an entry does not come next, a fence is left.
+  pub fence-left : (p : ℕ) (a : Pair) → entryNext p a ≡ false → p < below
+  unfolding entryNext
+  fence-left p a h = chosen (leb below p) refl h
+    where
+      chosen : (b : Bool) → leb below p ≡ b → (b || before a (fenceOf first p .pair)) ≡ false → p < below
+      chosen true q t = let z : _≡_ {A = ℕ} 0 1 = cc in absurd (omega arith)
+      chosen false q t = leb-false below p q
+
 module _ (inner : Bool) (first : ℕ → Pair) (below : ℕ) where
   -- The fences from p on, and the writing from position n on of these entries and the fences from p on.
   unfoldable pub fencesFrom : ℕ → List Slot
@@ -122,18 +136,14 @@ module _ (inner : Bool) (first : ℕ → Pair) (below : ℕ) where
   unfoldable pub laidFrom : ℕ → ℕ → Level → List Slot
   laidFrom n p es = cut inner n p (weave es (fencesFrom p))
 
-  -- An entry comes next where no fence is left, or the next one is above it.
-  unfoldable pub entryNext : ℕ → Pair → Bool
-  entryNext p a = leb below p || before a (fenceOf first p .pair)
-
   -- The slot at position n, and the entries left after it.
   unfoldable pub wanted : ℕ → ℕ → Level → Slot
   wanted n p [] = fenceOf first p
-  wanted n p (e ∷ es) = cond (entryNext p (e .pair)) (cond (fencedAt inner n) (internal (e .pair) (p - 1)) (index e)) (fenceOf first p)
+  wanted n p (e ∷ es) = cond (entryNext first below p (e .pair)) (cond (fencedAt inner n) (internal (e .pair) (p - 1)) (index e)) (fenceOf first p)
 
   unfoldable pub left : ℕ → ℕ → Level → Level
   left n p [] = []
-  left n p (e ∷ es) = cond (entryNext p (e .pair) && not (fencedAt inner n)) es (e ∷ es)
+  left n p (e ∷ es) = cond (entryNext first below p (e .pair) && not (fencedAt inner n)) es (e ∷ es)
 
   -- Neither an entry nor a fence is left.
   unfoldable pub ended : ℕ → Level → Bool
@@ -162,7 +172,7 @@ module _ (inner : Bool) (first : ℕ → Pair) (below : ℕ) where
   -- What the writing has next -------------------------------------------------------------------------------------------------------------
 
   -- An entry, where it comes next; a fence, where it does; nothing, where neither is left.
-  weave-entry : (p : ℕ) (e : Entry) (es : Level) → entryNext p (e .pair) ≡ true → weave (e ∷ es) (fencesFrom p) ≡ index e ∷ weave es (fencesFrom p)
+  weave-entry : (p : ℕ) (e : Entry) (es : Level) → entryNext first below p (e .pair) ≡ true → weave (e ∷ es) (fencesFrom p) ≡ index e ∷ weave es (fencesFrom p)
   unfolding weave place entryNext
   weave-entry p e es h = chosen (leb below p) refl h
     where
@@ -173,7 +183,7 @@ module _ (inner : Bool) (first : ℕ → Pair) (below : ℕ) where
           let n : before (e .pair) (fenceOf first p .pair) ≡ true = t in
           rw (fences-next p (leb-false below p q), place, n) refl
 
-  weave-fence : (p : ℕ) (e : Entry) (es : Level) → entryNext p (e .pair) ≡ false →
+  weave-fence : (p : ℕ) (e : Entry) (es : Level) → entryNext first below p (e .pair) ≡ false →
       weave (e ∷ es) (fencesFrom p) ≡ fenceOf first p ∷ weave (e ∷ es) (fencesFrom (p + 1))
   unfolding weave place entryNext
   weave-fence p e es h = chosen (leb below p) refl h
@@ -184,15 +194,6 @@ module _ (inner : Bool) (first : ℕ → Pair) (below : ℕ) where
       chosen false q t =
           let n : before (e .pair) (fenceOf first p .pair) ≡ false = t in
           rw (fences-next p (leb-false below p q), place, n) refl
-
-  -- Where an entry does not come next, a fence is left.
-  pub fence-left : (p : ℕ) (a : Pair) → entryNext p a ≡ false → p < below
-  unfolding entryNext
-  fence-left p a h = chosen (leb below p) refl h
-    where
-      chosen : (b : Bool) → leb below p ≡ b → (b || before a (fenceOf first p .pair)) ≡ false → p < below
-      chosen true q t = let z : _≡_ {A = ℕ} 0 1 = cc in absurd (omega arith)
-      chosen false q t = leb-false below p q
 
   -- A fence of the row is external, and passes to the next.
   fence-kind : (p : ℕ) → fenceOf first p .kind ≡ External
@@ -235,7 +236,7 @@ module _ (inner : Bool) (first : ℕ → Pair) (below : ℕ) where
   unfolding weave
   laid-fence n p b = rw (fences-next p b) (cut-fence inner n p (fencesFrom (p + 1)))
 
-  laid-entry : (n p : ℕ) (e : Entry) (es : Level) (b : Bool) → fencedAt inner n ≡ b → entryNext p (e .pair) ≡ true → cut inner n p (weave (e ∷ es) (fencesFrom p)) ≡
+  laid-entry : (n p : ℕ) (e : Entry) (es : Level) (b : Bool) → fencedAt inner n ≡ b → entryNext first below p (e .pair) ≡ true → cut inner n p (weave (e ∷ es) (fencesFrom p)) ≡
       cond b (internal (e .pair) (p - 1)) (index e) ∷
       cut inner (n + 1) (passed (cond b (internal (e .pair) (p - 1)) (index e) .kind) p)
       (weave (cond (not b) es (e ∷ es)) (fencesFrom (passed (cond b (internal (e .pair) (p - 1)) (index e) .kind) p)))
@@ -249,9 +250,9 @@ module _ (inner : Bool) (first : ℕ → Pair) (below : ℕ) where
       laidFrom n p es ≡ wanted n p es ∷ laidFrom (n + 1) (passed (wanted n p es .kind) p) (left n p es)
   unfolding laidFrom ended wanted left
   laid-next n p [] h = rw (fence-passed p) (laid-fence n p (leb-false below p h))
-  laid-next n p (e ∷ es) h = chosen (entryNext p (e .pair)) refl
+  laid-next n p (e ∷ es) h = chosen (entryNext first below p (e .pair)) refl
     where
-      chosen : (b : Bool) → entryNext p (e .pair) ≡ b → cut inner n p (weave (e ∷ es) (fencesFrom p)) ≡
+      chosen : (b : Bool) → entryNext first below p (e .pair) ≡ b → cut inner n p (weave (e ∷ es) (fencesFrom p)) ≡
           cond b (cond (fencedAt inner n) (internal (e .pair) (p - 1)) (index e)) (fenceOf first p) ∷
           cut inner (n + 1) (passed (cond b (cond (fencedAt inner n) (internal (e .pair) (p - 1)) (index e)) (fenceOf first p) .kind) p)
           (weave (cond (b && not (fencedAt inner n)) es (e ∷ es))
@@ -272,7 +273,7 @@ module _ (inner : Bool) (first : ℕ → Pair) (below : ℕ) where
   left-fence : (n p : ℕ) (es : Level) → fenceKind (wanted n p es .kind) ≡ true → left n p es ≡ es
   unfolding wanted left
   left-fence n p [] h = refl
-  left-fence n p (e ∷ es) h = chosen (entryNext p (e .pair)) (fencedAt inner n) h
+  left-fence n p (e ∷ es) h = chosen (entryNext first below p (e .pair)) (fencedAt inner n) h
     where
       chosen : (a b : Bool) → fenceKind (cond a (cond b (internal (e .pair) (p - 1)) (index e)) (fenceOf first p) .kind) ≡ true →
           cond (a && not b) es (e ∷ es) ≡ e ∷ es
@@ -283,7 +284,7 @@ module _ (inner : Bool) (first : ℕ → Pair) (below : ℕ) where
 
   left-entry : (n p : ℕ) (e : Entry) (es : Level) → fenceKind (wanted n p (e ∷ es) .kind) ≡ false → left n p (e ∷ es) ≡ es
   unfolding wanted left internal
-  left-entry n p e es h = chosen (entryNext p (e .pair)) (fencedAt inner n) h
+  left-entry n p e es h = chosen (entryNext first below p (e .pair)) (fencedAt inner n) h
     where
       fence-refused : fenceKind (fenceOf first p .kind) ≡ false → _≡_ {A = Bool} true false
       fence-refused h = ap fenceKind (sym (fence-kind p)) ∙ h

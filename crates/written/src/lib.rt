@@ -6,9 +6,9 @@ ghost use mathlib.Core.Bool.{true, _&&_};
 ghost use lib.ListN.{length};
 ghost use Rattle.rules.specs.Level.{index, internal, fenceOf};
 ghost use Rattle.rules.specs.Sound.{slotsFrom, entriesOf};
-ghost use Rattle.written.specs.Written.{levelRun, levelWritten, headWritten, LevelInside, HeadInside};
+ghost use Rattle.written.specs.Written.{firstPair, levelRun, levelWritten, headWritten, LevelInside, HeadInside};
 ghost use Rattle.written.specs.Stream.{sameSlot, entryOf, passed as Spec·passed, entryNext, fencedAt};
-ghost use Rattle.written.specs.Row.{RowInside, rowPlace, rowSlot, rowSlots, firstBelow, nextEntry, nothingLeft, wantedAt, isWanted, rises as Spec·rises, rowWritten};
+ghost use Rattle.written.specs.Row.{RowInside, rowPlace, rowSlot, rowSlots, nextEntry, nothingLeft, wantedAt, isWanted, rises as Spec·rises, rowWritten};
 ghost use Rattle.written.specs.Tested.{filled, lastRight, unused as Spec·unused};
 use geometry::ERASED;
 use geometry::FIRST_SLOT;
@@ -230,12 +230,12 @@ fn wanted(words: &[u32], row: Row, n: usize, r: usize, p: u32) -> Slot
     ensures { λ s. ⌜ s ≡ wantedAt (now (words .entry)) row n r p ⌝ }
 {
     if row.slots <= r {
-        return fence_of(words, row, p);
+        return fence_of(words, row.below_start, p);
     }
     let entry = slot_of(words, row, r);
     let pair = entry.pair;
-    if !entry_next(words, row, p, pair) {
-        return fence_of(words, row, p);
+    if !entry_next(words, row.below_start, row.below, p, pair) {
+        return fence_of(words, row.below_start, p);
     }
     if fenced_at(row.fenced, n) {
         return inner_fence(pair, p);
@@ -251,21 +251,21 @@ fn nothing_left(row: Row, r: usize, p: u32) -> bool
 }
 
 // Whether an entry at position n would be first in a page, where internal fences go.
-fn fenced_at(fenced: bool, n: usize) -> bool
+pub fn fenced_at(fenced: bool, n: usize) -> bool
     ensures { λ b. ⌜ b ≡ fencedAt fenced n ⌝ }
 {
     fenced && n % 21 == 0
 }
 
 // Whether an entry of this pair comes next: no fence is left, or the next one is above it.
-fn entry_next(words: &[u32], row: Row, p: u32, pair: Pair) -> bool
-    requires { ⌜ RowInside (now words) row ⌝ }
-    ensures { λ b. ⌜ b ≡ entryNext (row .fenced) (firstBelow (now (words .entry)) row) (row .below) p pair ⌝ }
+pub fn entry_next(words: &[u32], below_start: usize, below: u32, p: u32, pair: Pair) -> bool
+    requires { ⌜ «below_start» + 64 * below ≤ length (now words) ⌝ }
+    ensures { λ b. ⌜ b ≡ entryNext (firstPair (now (words .entry)) «below_start») below p pair ⌝ }
 {
-    if row.below <= p {
+    if below <= p {
         return true;
     }
-    let fence = fence_of(words, row, p);
+    let fence = fence_of(words, below_start, p);
     comes_before(pair, fence.pair)
 }
 
@@ -302,10 +302,9 @@ fn slot_of(words: &[u32], row: Row, n: usize) -> Slot
 }
 
 // The fence of page p of the level below: of page 0 with the least pair, of any other with the pair in the page's first slot.
-fn fence_of(words: &[u32], row: Row, p: u32) -> Slot
-    requires { ⌜ RowInside (now words) row ⌝ }
-    requires { ⌜ p < row .below ⌝ }
-    ensures { λ s. ⌜ s ≡ fenceOf (firstBelow (now (words .entry)) row) p ⌝ }
+pub fn fence_of(words: &[u32], below_start: usize, p: u32) -> Slot
+    requires { ⌜ «below_start» + 64 * p + 64 ≤ length (now words) ⌝ }
+    ensures { λ s. ⌜ s ≡ fenceOf (firstPair (now (words .entry)) «below_start») p ⌝ }
 {
     if p == 0 {
         return Slot {
@@ -316,7 +315,7 @@ fn fence_of(words: &[u32], row: Row, p: u32) -> Slot
     }
     let first = read_slot(
         words,
-        row.below_start + PAGE_WORDS * p as usize + FIRST_SLOT,
+        below_start + PAGE_WORDS * p as usize + FIRST_SLOT,
     );
     let pair = first.pair;
     Slot {
@@ -327,7 +326,7 @@ fn fence_of(words: &[u32], row: Row, p: u32) -> Slot
 }
 
 // The internal fence with a pair, naming the page of the last fence.
-fn inner_fence(pair: Pair, p: u32) -> Slot
+pub fn inner_fence(pair: Pair, p: u32) -> Slot
     ensures { λ s. ⌜ s ≡ internal pair (p - 1) ⌝ }
 {
     let page = if p == 0 { 0 } else { p - 1 };

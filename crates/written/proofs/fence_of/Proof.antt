@@ -1,7 +1,6 @@
 -- `fence_of` gives the fence of a page below: of page 0 with the least pair, of any other with the pair that `read_slot` gives. Assumes nothing.
 use Rattle.rules.specs.Level.{external}
 use Rattle.written.specs.Stream.{fence-zero, fence-later}
-use Rattle.written.specs.Row.{firstBelow}
 use Rattle.written.specs.Written.{firstPair}
 use native.Mathlib.Omega.{arith}
 use borrow.Author.Needs.{needs}
@@ -16,20 +15,20 @@ unfolding external
 returns c = fence-zero _ _ _ (c .before .if1 .taken) (c .least-pair .ensures)
 
 mul-read-slot : tie.Need-mul-read-slot
-mul-read-slot c = omega (arith, c .before .before .pre .0 .below-inside, c .before .before .pre .1)
+mul-read-slot c = omega (arith, c .before .before .pre)
 
 add-read-slot : tie.Need-add-read-slot
-add-read-slot c = omega (arith, c .before .before .before .pre .0 .below-inside, c .before .before .before .pre .1)
+add-read-slot c = omega (arith, c .before .before .pre)
 
 add-read-slot-2 : tie.Need-add-read-slot-2
-add-read-slot-2 c = omega (arith, c .before .before .before .pre .0 .below-inside, c .before .before .before .pre .1)
+add-read-slot-2 c = omega (arith, c .before .before .pre)
 
 read-slot-requires : tie.Need-read-slot-requires
-read-slot-requires c κs = omega (arith, c .before .before .before .pre .0 .below-inside, c .before .before .before .pre .1)
+read-slot-requires c κs = omega (arith, c .before .before .pre)
 
 returns-2 : tie.Need-returns-2
-unfolding external firstBelow firstPair
-returns-2 c = rw (c .before .read-slot .ensures) (fence-later _ _ (c .before .before .before .if1 .left))
+unfolding external firstPair
+returns-2 c = rw (c .before .read-slot .ensures) (fence-later _ _ (c .before .before .if1 .left))
 
 pub fence-of-spec : {M : Type 1} → statement M
 fence-of-spec =
