@@ -49,7 +49,7 @@ headRow start count belowStart below = record {
 }
 
 -- The stream from the beginning is the whole writing.
-laid-whole : (inner : Bool) (first : ℕ → Pair) (below : ℕ) (es : Level) → laidFrom inner first below 0 0 es ≡ laidOver inner first below es
+pub laid-whole : (inner : Bool) (first : ℕ → Pair) (below : ℕ) (es : Level) → laidFrom inner first below 0 0 es ≡ laidOver inner first below es
 unfolding laidFrom laidOver cut fencesFrom fences
 laid-whole true first below es = rw (sub-zero below) refl
 laid-whole false first below es = rw (sub-zero below) refl

@@ -95,7 +95,7 @@ unfolding index
 entry-pair e = refl
 
 -- The next fence stays the next after an entry or an internal fence.
-entry-passed : (e : Entry) (p : ℕ) → passed (index e .kind) p ≡ p
+pub entry-passed : (e : Entry) (p : ℕ) → passed (index e .kind) p ≡ p
 unfolding index
 entry-passed e p = chosen (e .normal)
   where
@@ -103,7 +103,7 @@ entry-passed e p = chosen (e .normal)
     chosen true = refl
     chosen false = refl
 
-internal-passed : (a : Pair) (n p : ℕ) → passed (internal a n .kind) p ≡ p
+pub internal-passed : (a : Pair) (n p : ℕ) → passed (internal a n .kind) p ≡ p
 unfolding internal
 internal-passed a n p = refl
 
@@ -201,7 +201,7 @@ module _ (inner : Bool) (first : ℕ → Pair) (below : ℕ) where
   fence-kind zero = refl
   fence-kind (suc p) = refl
 
-  fence-passed : (p : ℕ) → passed (fenceOf first p .kind) p ≡ p + 1
+  pub fence-passed : (p : ℕ) → passed (fenceOf first p .kind) p ≡ p + 1
   unfolding fenceOf external
   fence-passed zero = refl
   fence-passed (suc p) = refl

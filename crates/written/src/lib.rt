@@ -313,10 +313,7 @@ pub fn fence_of(words: &[u32], below_start: usize, p: u32) -> Slot
             page: Pid(0),
         };
     }
-    let first = read_slot(
-        words,
-        below_start + PAGE_WORDS * p as usize + FIRST_SLOT,
-    );
+    let first = read_slot(words, below_start + PAGE_WORDS * p as usize + FIRST_SLOT);
     let pair = first.pair;
     Slot {
         pair,

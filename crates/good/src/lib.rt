@@ -1,0 +1,1 @@
+// Good states and what keeps them so: theorems on lists, in specs/.
