@@ -2,3 +2,5 @@
 pub mod Source
 pub mod Joining
 pub mod Feeding
+pub mod Append
+pub mod Writing

@@ -31,15 +31,15 @@ flatSlot w start n = slotAt w (start + 64 * (n / 21) + 1 + 3 * (n % 21))
 unfoldable pub levelPage : List Slot → ℕ → List ℕ
 levelPage slots p = elim (ltb p (pagesFor (length slots))) [ true ↦ pageWords (pageOf slots p) | false ↦ replicate 64 erased ]
 
-level-pages : (slots : List Slot) (n : ℕ) → levelWords slots n ≡ concat (span (levelPage slots) 0 n)
+pub level-pages : (slots : List Slot) (n : ℕ) → levelWords slots n ≡ concat (span (levelPage slots) 0 n)
 unfolding levelWords levelPage
 level-pages slots n = refl
 
-page-used : (slots : List Slot) (p : ℕ) → p < pagesFor (length slots) → levelPage slots p ≡ pageWords (pageOf slots p)
+pub page-used : (slots : List Slot) (p : ℕ) → p < pagesFor (length slots) → levelPage slots p ≡ pageWords (pageOf slots p)
 unfolding levelPage
 page-used slots p h = rw (lt-ltb p (pagesFor (length slots)) h, levelPage) refl
 
-page-unused : (slots : List Slot) (p : ℕ) → pagesFor (length slots) ≤ p → levelPage slots p ≡ replicate 64 erased
+pub page-unused : (slots : List Slot) (p : ℕ) → pagesFor (length slots) ≤ p → levelPage slots p ≡ replicate 64 erased
 unfolding levelPage
 page-unused slots p h = rw (le-ltb p (pagesFor (length slots)) h, levelPage) refl
 
@@ -51,7 +51,7 @@ page-length slots p = length-take 21 (drop (21 * p) slots) ∙ ap (min 21) (leng
 page-most : (slots : List Slot) (p : ℕ) → length (pageOf slots p) ≤ 21
 page-most slots p = omega (arith, page-length slots p)
 
-level-page-length : (slots : List Slot) (p : ℕ) → length (levelPage slots p) ≡ 64
+pub level-page-length : (slots : List Slot) (p : ℕ) → length (levelPage slots p) ≡ 64
 unfolding levelPage pageWords runWords
 level-page-length slots p = chosen (ltb p (pagesFor (length slots)))
   where
