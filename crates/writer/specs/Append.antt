@@ -1,6 +1,7 @@
 -- A level's words in a lent area, slot by slot: those of no slots, and those of one slot more. Assumes nothing.
 use Prim.Native.Nat.{ℕ, zero, suc, _+_, _-_, _*_, _/_, _%_, _≤_, _<_}
 use native.Mathlib.Nat.{zero-add, suc-add}
+use native.Mathlib.Numerals.{add-one}
 use native.Mathlib.Omega.{arith}
 use mathlib.Core.Path.{_≡_, refl, sym, ap, _∙_}
 use mathlib.Core.Bool.{Bool, true, false}
@@ -184,6 +185,18 @@ level-empty room h =
     let all : levelWords [] room ≡ 0 ∷ replicate 63 erased ++ replicate (64 * (room - 1)) erased =
     level-pages [] room ∙ pages-around (levelPage []) 0 room h ∙ rw (first, rest) refl in
     rw e (sym (all ∙ ap (λ (l : List ℕ). 0 ∷ l) (replicate-append-replicate 63 (64 * (room - 1)) erased)))
+
+-- Words set to unused one by one, and all of them.
+module _ (w : List ℕ) (i to : ℕ) where
+  pub erased-on : i < to → sets (set w i erased) (i + 1) (replicate (to - (i + 1)) erased) ≡ sets w i (replicate (to - i) erased)
+  erased-on h =
+      let q : to - i ≡ suc (to - (i + 1)) = omega arith in
+      rw (q, add-one i) refl
+
+  pub erased-over : to ≤ i → sets w i (replicate (to - i) erased) ≡ w
+  erased-over h =
+      let q : to - i ≡ 0 = omega arith in
+      rw q refl
 
 pub all-erased : (w : List ℕ) → sets w 0 (replicate (length w) erased) ≡ replicate (length w) erased
 all-erased w =

@@ -1,12 +1,15 @@
 -- What a level is written from, as the clauses of src/lib.rt cite it. Assumes nothing.
 use Prim.Native.Nat.{ℕ, _+_, _*_, _^_, _≤_}
-use mathlib.Core.Path.{_≡_}
+use native.Mathlib.Omega.{arith}
+use mathlib.Core.Path.{_≡_, refl}
 use mathlib.Core.Bool.{true}
-use mathlib.Core.List.{List}
+use mathlib.Core.List.{List, []}
 use lib.ListN.{length}
+use Rattle.laws.specs.Lists.{span, concat}
 use Rattle.slot.specs.declared.Slot.{Slot}
 use Rattle.rules.specs.Merging.{join}
-use Rattle.rules.specs.Sound.{ascending}
+use Rattle.rules.specs.Sound.{entriesOf, ascending}
+use Rattle.entries.specs.declared.Run.{Run}
 use Rattle.entries.specs.Run.{Inside, entriesIn}
 use Rattle.written.specs.Written.{firstPair, laidOver}
 use Rattle.writer.specs.declared.Source.{Source}
@@ -27,3 +30,15 @@ pub record SourceAscends (w : List ℕ) (source : Source) : Type 0 where
 unfoldable pub levelFrom : List ℕ → Source → List Slot
 levelFrom w source =
     laidOver (source .fenced) (firstPair w (source .«below_start»)) (source .below) (join (entriesIn w (source .upper)) (entriesIn w (source .lower)))
+
+-- A run that has no entries: a level of fences alone is written from two of them.
+unfoldable pub emptyRun : Run
+emptyRun = record { start = 0; pages = 0; most = 0 }
+
+pub empty-entries : (w : List ℕ) → entriesIn w emptyRun ≡ []
+unfolding emptyRun entriesIn span concat entriesOf
+empty-entries w = refl
+
+pub empty-inside : (n : ℕ) → Inside emptyRun n
+unfolding emptyRun
+empty-inside n = record { ends = omega arith; few-pages = omega arith; few-slots = omega arith }

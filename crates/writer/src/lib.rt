@@ -1,14 +1,20 @@
 // Writes a level from a stream of entries over the fences below: two levels' index entries joined in order, with a fence for each page of
 // the level below, slot by slot into a lent work area that is never read.
-ghost use Prim.Native.Nat.{_+_, _*_, _^_, _≤_, _<_};
+ghost use Prim.Native.Nat.{_+_, _-_, _*_, _/_, _^_, _≤_, _<_};
 ghost use mathlib.Core.Path.{_≡_};
 ghost use mathlib.Core.Bool.{true, false};
-ghost use lib.ListN.{length, drop};
-ghost use Rattle.entries.specs.Run.{Inside, entry as indexed, entriesIn, ahead};
+ghost use mathlib.Core.List.{[]};
+ghost use lib.ListN.{length, drop, replicate};
+ghost use lib.Seq.{sets};
+ghost use Rattle.geometry.specs.Places.{erased};
+ghost use Rattle.entries.specs.Run.{Inside, entry as indexed, ahead};
 ghost use Rattle.rules.specs.Level.{index, pagesFor};
-ghost use Rattle.writer.specs.Source.{SourceInside, SourceAscends, levelFrom};
+ghost use Rattle.rules.specs.Store.{levelWords};
+ghost use Rattle.writer.specs.Source.{SourceInside, SourceAscends, levelFrom, emptyRun};
 ghost use Rattle.writer.specs.Joining.{onePair, comesFirst, upperFirst, bothAhead, joinedAhead, Rises, JoinedRises};
 ghost use Rattle.writer.specs.Feeding.{toCome, fedSlots, entryDue, PenReady, FedBehind};
+ghost use Rattle.writer.specs.Append.{slotPut};
+ghost use Rattle.writer.specs.Writing.{roomIn, WholePages};
 use entries::Entry;
 use entries::Next;
 use entries::Run;
@@ -52,7 +58,14 @@ pub enum Fed {
 }
 
 // Writes a level into the work area, and gives the number of its slots.
-pub fn write_level(store: &[u32], work: &mut [u32], source: Source) -> u32 {
+pub fn write_level(store: &[u32], work: &mut [u32], source: Source) -> u32
+    requires { ⌜ SourceInside (now store) source ⌝ }
+    requires { ⌜ SourceAscends (now store) source ⌝ }
+    requires { ⌜ WholePages (now work) ⌝ }
+    requires { ⌜ length (levelFrom (now store) source) ≤ 21 * roomIn (now work) ⌝ }
+    ensures area { λ _. ⌜ now (work .exit) ≡ levelWords (levelFrom (now (store .entry)) source) (roomIn (now (work .entry))) ⌝ }
+    ensures count { λ r. ⌜ r ≡ length (levelFrom (now (store .entry)) source) ⌝ }
+{
     start_level(work);
     let mut pen = first_pen(store, source);
     loop {
@@ -78,7 +91,9 @@ pub fn pages_for(slots: u32) -> u32
 }
 
 // A run that has no entries.
-pub fn no_run() -> Run {
+pub fn no_run() -> Run
+    ensures { λ r. ⌜ r ≡ emptyRun ⌝ }
+{
     Run {
         start: 0,
         pages: 0,
@@ -87,14 +102,20 @@ pub fn no_run() -> Run {
 }
 
 // Makes the work area the writing of a level without slots.
-fn start_level(work: &mut [u32]) {
+fn start_level(work: &mut [u32])
+    requires { ⌜ WholePages (now work) ⌝ }
+    ensures { λ _. ⌜ now (work .exit) ≡ levelWords [] (roomIn (now (work .entry))) ⌝ }
+{
     let end = work.len();
     erase(work, 0, end);
     work[0] = 0;
 }
 
 // Sets the words from a place to another to unused.
-pub fn erase(words: &mut [u32], from: usize, to: usize) {
+pub fn erase(words: &mut [u32], from: usize, to: usize)
+    requires { ⌜ to ≤ length (now words) ⌝ }
+    ensures { λ _. ⌜ now (words .exit) ≡ sets (now (words .entry)) from (replicate (to - from) erased) ⌝ }
+{
     let mut i = from;
     while i < to {
         words[i] = ERASED;
@@ -103,7 +124,11 @@ pub fn erase(words: &mut [u32], from: usize, to: usize) {
 }
 
 // Puts a slot at a position of the row: its three words, and its page's count.
-fn put_slot(work: &mut [u32], position: u32, slot: Slot) {
+fn put_slot(work: &mut [u32], position: u32, slot: Slot)
+    requires { ⌜ 64 * (position / 21) + 64 ≤ length (now work) ⌝ }
+    requires { ⌜ slot .page .0 < 2 ^ 30 ⌝ }
+    ensures { λ _. ⌜ now (work .exit) ≡ slotPut (now (work .entry)) position slot ⌝ }
+{
     let page = PAGE_WORDS * (position / PAGE_SLOTS) as usize;
     let number = position % PAGE_SLOTS;
     slot::write_slot(work, page + FIRST_SLOT + SLOT_WORDS * number as usize, slot);

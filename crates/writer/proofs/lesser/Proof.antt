@@ -37,8 +37,7 @@ comes-first-requires c κs = search needs
 
 -- src/lib.rt:269:9
 lower-next-requires-2 : tie.Need-lower-next-requires-2
-lower-next-requires-2 c κs =
-    (
+lower-next-requires-2 c κs = (
   c .before .before .before .before .before .before .before .pre .0,
   (
     subst (λ (n : Next). Rises (now (c .before .before .before .before .before .before .before .args .words)) (c .before .before .before .before .before .before .before .args .source) n (c .before .before .before .before .before .before .before .args .lower)) (c .before .before .before .before .upper .given .1) (c .before .before .before .before .before .before .before .pre .1 .0),
@@ -56,8 +55,7 @@ next-entry-requires c κs = c .before .before .before .before .before .before .b
 
 -- src/lib.rt:257:1
 returns-3 : tie.Need-returns-3
-returns-3 c =
-    (
+returns-3 c = (
   upper-comes _ _ _ _ _ _ _ (c .before .before .before .before .before .before .upper .given .1) (c .before .before .before .before .before .before .before .before .before .pre .1 .0) (told-past _ _ (c .before .before .before .comes-first .ensures) (c .before .before .if1 .left)) (c .next-entry .ensures),
   upper-behind _ _ _ _ _ _ _ (c .before .before .before .before .before .before .upper .given .1) (c .before .before .before .before .before .before .before .before .before .pre .1 .0) (c .next-entry .ensures),
 )

@@ -25,8 +25,7 @@ next-entry-requires c κs = c .before .before .before .before .before .pre .0 .l
 
 -- src/lib.rt:277:1
 returns-2 : tie.Need-returns-2
-returns-2 c =
-    (
+returns-2 c = (
   lower-comes _ _ _ _ _ _ _ (c .before .before .before .lower .given .1) (c .before .before .before .before .before .before .pre .1 .0) (c .before .before .before .before .before .before .pre .1 .1 .0) (c .before .before .before .before .before .before .pre .1 .1 .1) (c .next-entry .ensures),
   lower-behind _ _ _ _ _ _ _ (c .before .before .before .lower .given .1) (c .before .before .before .before .before .before .pre .1 .0) (c .next-entry .ensures),
 )

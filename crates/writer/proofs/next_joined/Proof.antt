@@ -42,8 +42,7 @@ loop-less c = cancel-falls (now (c .before .before .before .before .before .befo
 
 -- src/lib.rt:225:5
 loop-again : tie.Need-loop-again Inv-loop μ-loop
-loop-again c =
-    (
+loop-again c = (
   both-cancel (now (c .before .before .before .before .before .before .before .before .args .words)) (c .before .before .before .before .before .before .before .before .args .source) (c .before .before .before .before .loop .high) (c .before .before .before .before .loop .low) (c .before .past .result) (c .past2 .result) (c .before .before .before .before .loop .inv .1) (told-yes _ _ (c .before .before .before .one-pair .ensures) (c .before .before .if1 .taken)) (c .before .past .ensures) (c .past2 .ensures) ∙ c .before .before .before .before .loop .inv .0,
   cancel-rises (now (c .before .before .before .before .before .before .before .before .args .words)) (c .before .before .before .before .before .before .before .before .args .source) (c .before .before .before .before .loop .high) (c .before .before .before .before .loop .low) (c .before .past .result) (c .past2 .result) (c .before .before .before .before .loop .inv .1) (c .before .past .ensures) (c .past2 .ensures),
 )

@@ -67,8 +67,7 @@ add-t17 c = omega (arith, c .before .before .before .before .before .before .bef
 
 -- src/lib.rt:157:9
 returns-3 : tie.Need-returns-3
-returns-3 c =
-    (
+returns-3 c = (
   inner-fed _ _ _ _ _ _ (c .before .before .before .before .before .before .before .before .before .before .next .given .1) _ (told-past _ _ (c .before .before .before .before .before .before .entry-next .ensures) (c .before .before .before .before .before .if1 .left)) (told-yes _ _ (c .before .before .before .fenced-at .ensures) (c .before .before .if2 .taken)) (c .before .inner-fence .ensures),
   inner-behind _ _ _ _ _ _ (c .before .before .before .before .before .before .before .before .before .before .next .given .1) _ (c .before .before .before .before .before .before .before .before .before .before .before .before .before .pre .0) (c .before .before .before .before .before .before .before .before .before .before .before .before .before .pre .1 .0) (c .before .inner-fence .ensures),
 )
@@ -87,8 +86,7 @@ add-t19 c = omega (arith, c .before .before .before .before .before .before .bef
 
 -- src/lib.rt:134:1
 returns-4 : tie.Need-returns-4
-returns-4 c =
-    (
+returns-4 c = (
   entry-fed _ _ _ _ _ _ (c .before .before .before .before .before .before .before .before .before .before .before .next .given .1) _ _ (told-past _ _ (c .before .before .before .before .before .before .before .entry-next .ensures) (c .before .before .before .before .before .before .if1 .left)) (sym (c .before .before .before .before .fenced-at .ensures) ∙ c .before .before .before .if2 .left) (c .before .before .index-of .ensures) (c .before .next-joined .ensures .0),
   entry-behind _ _ _ _ _ _ (c .before .before .before .before .before .before .before .before .before .before .before .next .given .1) _ _ (c .before .before .before .before .before .before .before .before .before .before .before .before .before .before .pre .1 .0) (c .before .before .index-of .ensures) (c .before .next-joined .ensures .1),
 )
