@@ -27,6 +27,10 @@ use slot::Kind;
 use slot::Pair;
 use slot::Pid;
 use slot::Slot;
+use written::entry_next;
+use written::fence_of;
+use written::fenced_at;
+use written::inner_fence;
 
 // What a level is written from: the two levels that are joined, the first word and the number of pages of the level below, and whether
 // internal fences go in. The bottom has no pages below and no fences.
@@ -67,6 +71,19 @@ pub fn write_level(store: &[u32], work: &mut [u32], source: Source) -> u32
     ensures count { λ r. ⌜ r ≡ length (levelFrom (now (store .entry)) source) ⌝ }
 {
     start_level(work);
+    write_slots(store, work, source)
+}
+
+// Puts a level's slots into a work area that is the writing of none, and gives their number.
+fn write_slots(store: &[u32], work: &mut [u32], source: Source) -> u32
+    requires { ⌜ SourceInside (now store) source ⌝ }
+    requires { ⌜ SourceAscends (now store) source ⌝ }
+    requires { ⌜ now work ≡ levelWords [] (roomIn (now work)) ⌝ }
+    requires { ⌜ roomIn (now work) ≤ 4096 ⌝ }
+    requires { ⌜ length (levelFrom (now store) source) ≤ 21 * roomIn (now work) ⌝ }
+    ensures area { λ _. ⌜ now (work .exit) ≡ levelWords (levelFrom (now (store .entry)) source) (roomIn (now (work .entry))) ⌝ }
+    ensures count { λ r. ⌜ r ≡ length (levelFrom (now (store .entry)) source) ⌝ }
+{
     let mut pen = first_pen(store, source);
     loop {
         let position = pen.position;
@@ -163,26 +180,24 @@ pub fn next_slot(store: &[u32], source: Source, pen: Pen) -> Fed
     ensures told { λ r. ⌜ fedSlots (now (store .entry)) source r ≡ toCome (now (store .entry)) source pen ⌝ }
     ensures behind { λ r. ⌜ FedBehind (now (store .entry)) source pen r ⌝ }
 {
+    let position = pen.position;
     let fence = pen.fence;
     let next = pen.next;
     let Joined::First(entry, upper, lower) = next else {
         return fence_slot(store, source, pen);
     };
     let pair = entry.pair;
-    if !written::entry_next(
-        store,
-        source.below_start as usize,
-        source.below,
-        fence,
-        pair,
-    ) {
+    let start = source.below_start as usize;
+    if !entry_next(store, start, source.below, fence, pair) {
         return fence_slot(store, source, pen);
     }
-    if written::fenced_at(source.fenced, pen.position as usize) {
+    let after = position + 1;
+    if fenced_at(source.fenced, position as usize) {
+        let slot = inner_fence(pair, fence);
         return Fed::Slot(
-            written::inner_fence(pair, fence),
+            slot,
             Pen {
-                position: pen.position + 1,
+                position: after,
                 fence,
                 next,
             },
@@ -193,7 +208,7 @@ pub fn next_slot(store: &[u32], source: Source, pen: Pen) -> Fed
     Fed::Slot(
         slot,
         Pen {
-            position: pen.position + 1,
+            position: after,
             fence,
             next: behind,
         },
@@ -213,13 +228,15 @@ fn fence_slot(store: &[u32], source: Source, pen: Pen) -> Fed
     if source.below <= fence {
         return Fed::Ended;
     }
-    let slot = written::fence_of(store, source.below_start as usize, fence);
+    let slot = fence_of(store, source.below_start as usize, fence);
+    let after = pen.position + 1;
+    let later = fence + 1;
     let next = pen.next;
     Fed::Slot(
         slot,
         Pen {
-            position: pen.position + 1,
-            fence: fence + 1,
+            position: after,
+            fence: later,
             next,
         },
     )

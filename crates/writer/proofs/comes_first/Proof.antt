@@ -1,30 +1,22 @@
+-- `comes_first` compares a pair with a run's next entry, case by case. Assumes nothing.
 use mathlib.Core.Path.{ap, sym, _∙_}
 use Rattle.writer.specs.Joining.{comesFirst}
-use native.Mathlib.Omega.{arith}
 use borrow.Author.Needs.{needs}
 use Rattle.writer.proofs.comes_first.Statement.{statement}
 use Rattle.writer.proofs.comes_first.Tie as tie
-use Rattle.writer.proofs.comes_first.Reads as reads
-use Rattle.writer.proofs.comes_first.Lts as lts
-use Rattle.slot.proofs.comes_before.Reads as comes-before-reads
 
--- src/lib.rt:297:21
 enum-known-front : tie.Need-enum-known-front
 enum-known-front c = search needs
 
--- src/lib.rt:298:9
 enum-told : tie.Need-enum-told
 enum-told c = search needs
 
--- src/lib.rt:298:9
 returns : tie.Need-returns
 returns c = ap (comesFirst (c .before .before .args .pair)) (sym (c .enum-told .given .1))
 
--- src/lib.rt:300:5
 comes-before-requires : tie.Need-comes-before-requires
 comes-before-requires c κs = search needs
 
--- src/lib.rt:294:1
 returns-2 : tie.Need-returns-2
 returns-2 c = c .comes-before .ensures ∙ ap (comesFirst (c .before .before .before .before .args .pair)) (sym (c .before .before .front .given .1))
 

@@ -1,3 +1,4 @@
+-- `erase` sets words to unused. The loop's invariant: setting the words from here on gives the words asked for. Assumes nothing.
 use Prim.Native.Nat.{_-_}
 use mathlib.Core.Path.{_≡_, refl, sym, _∙_}
 use lib.ListN.{length, replicate, length-set}
@@ -8,8 +9,6 @@ use borrow.Author.Needs.{needs}
 use native.Mathlib.Omega.{arith}
 use Rattle.writer.proofs.erase.Statement.{statement}
 use Rattle.writer.proofs.erase.Tie as tie
-use Rattle.writer.proofs.erase.Reads as reads
-use Rattle.writer.proofs.erase.Lts as lts
 
 abbrev Inv-loop : tie.InvT-loop
 Inv-loop words₀ from to i₀ words i = (sets words i (replicate (to - i) erased) ≡ sets words₀ from (replicate (to - from) erased)) × (length words ≡ length words₀)
@@ -17,35 +16,27 @@ Inv-loop words₀ from to i₀ words i = (sets words i (replicate (to - i) erase
 abbrev μ-loop : tie.MeasureT-loop
 μ-loop words₀ from to i₀ words i = to - i
 
--- src/lib.rt:120:5
 loop-holds : tie.Need-loop-holds Inv-loop μ-loop
 loop-holds c = (refl, refl)
 
--- src/lib.rt:121:9
 mul-words : tie.Need-mul-words Inv-loop μ-loop
 mul-words c = search needs
 
--- src/lib.rt:121:9
 slice-write-words : tie.Need-slice-write-words Inv-loop μ-loop
 slice-write-words c = search needs
 
--- src/lib.rt:122:9
 add-i : tie.Need-add-i Inv-loop μ-loop
 add-i c = search needs
 
--- src/lib.rt:120:5
 loop-less : tie.Need-loop-less Inv-loop μ-loop
 loop-less c = omega (arith, c .loop-test .taken)
 
--- src/lib.rt:120:5
 loop-again : tie.Need-loop-again Inv-loop μ-loop
 loop-again c = (erased-on _ _ _ (c .loop-test .taken) ∙ c .before .loop .inv .0, simp length-set (c .before .loop .inv .1))
 
--- src/lib.rt:115:1
 same-length : tie.Need-same-length Inv-loop μ-loop
 same-length c = search needs
 
--- src/lib.rt:115:1
 returns : tie.Need-returns Inv-loop μ-loop
 returns c = sym (erased-over _ _ _ (c .loop-test .left)) ∙ c .before .loop .inv .0
 

@@ -1,27 +1,19 @@
+-- `first_pen` stands where all slots of the level are still to come, from what `first_entry` and `next_joined` ensure. Assumes nothing.
 use mathlib.Core.Path.{refl}
 use Rattle.writer.specs.Feeding.{first-rises, all-to-come}
 use native.Mathlib.Omega.{arith}
-use borrow.Author.Needs.{needs}
 use Rattle.writer.proofs.first_pen.Statement.{statement}
 use Rattle.writer.proofs.first_pen.Tie as tie
-use Rattle.writer.proofs.first_pen.Reads as reads
-use Rattle.writer.proofs.first_pen.Lts as lts
-use Rattle.entries.proofs.first_entry.Reads as first-entry-reads
-use Rattle.writer.proofs.next_joined.Reads as next-joined-reads
 
--- src/lib.rt:122:9
 first-entry-requires : tie.Need-first-entry-requires
 first-entry-requires c κs = c .before .before .pre .0 .upper-inside
 
--- src/lib.rt:124:9
 first-entry-requires-2 : tie.Need-first-entry-requires-2
 first-entry-requires-2 c κs = c .before .before .before .before .pre .0 .lower-inside
 
--- src/lib.rt:125:9
 next-joined-requires : tie.Need-next-joined-requires
 next-joined-requires c κs = (c .before .before .before .before .before .pre .0, first-rises _ _ _ _ (c .before .before .first-entry .ensures) (c .first-entry2 .ensures) (c .before .before .before .before .before .pre .1))
 
--- src/lib.rt:114:1
 returns : tie.Need-returns
 returns c = (all-to-come _ _ _ _ (c .before .before .before .first-entry .ensures) (c .before .first-entry2 .ensures) _ (c .next-joined .ensures .0), (record { fence-most = omega arith; ahead-rises = c .next-joined .ensures .1 }, refl))
 

@@ -1,41 +1,28 @@
-use mathlib.Core.Path.{subst}
+-- `lesser` gives the entry that comes first in two runs, case by case (specs/Joining.antt). Assumes nothing.
+use mathlib.Core.Path.{subst, ap, sym, _∙_}
 use denote.Ref.{now}
-use Rattle.writer.specs.Joining.{onePair, Rises}
-use mathlib.Core.Path.{ap, sym, _∙_}
+use Rattle.writer.specs.Joining.{onePair, Rises, upperFirst, upper-comes, upper-behind}
 use Rattle.entries.specs.declared.Next.{Next}
 use Rattle.laws.specs.Tests.{told-no, told-past}
-use Rattle.writer.specs.Joining.{upperFirst, upper-comes, upper-behind}
-use native.Mathlib.Omega.{arith}
 use borrow.Author.Needs.{needs}
 use Rattle.writer.proofs.lesser.Statement.{statement}
 use Rattle.writer.proofs.lesser.Tie as tie
-use Rattle.writer.proofs.lesser.Reads as reads
-use Rattle.writer.proofs.lesser.Lts as lts
-use Rattle.entries.proofs.next_entry.Reads as next-entry-reads
-use Rattle.writer.proofs.comes_first.Reads as comes-first-reads
-use Rattle.writer.proofs.lower_next.Reads as lower-next-reads
 
--- src/lib.rt:264:21
 enum-known-upper : tie.Need-enum-known-upper
 enum-known-upper c = search needs
 
--- src/lib.rt:265:9
 enum-told : tie.Need-enum-told
 enum-told c = search needs
 
--- src/lib.rt:265:9
 lower-next-requires : tie.Need-lower-next-requires
 lower-next-requires c κs = (c .before .before .before .pre .0, (c .before .before .before .pre .1 .0, (ap (λ (n : Next). upperFirst n (c .before .before .before .args .lower)) (c .enum-told .given .1), c .before .before .before .pre .1 .1)))
 
--- src/lib.rt:265:9
 returns : tie.Need-returns
 returns c = (c .lower-next .ensures .0, c .lower-next .ensures .1)
 
--- src/lib.rt:268:9
 comes-first-requires : tie.Need-comes-first-requires
 comes-first-requires c κs = search needs
 
--- src/lib.rt:269:9
 lower-next-requires-2 : tie.Need-lower-next-requires-2
 lower-next-requires-2 c κs = (
   c .before .before .before .before .before .before .before .pre .0,
@@ -45,15 +32,12 @@ lower-next-requires-2 c κs = (
   ),
 )
 
--- src/lib.rt:269:9
 returns-2 : tie.Need-returns-2
 returns-2 c = rw (c .before .before .before .before .before .upper .given .1) (c .lower-next2 .ensures .0, c .lower-next2 .ensures .1)
 
--- src/lib.rt:272:9
 next-entry-requires : tie.Need-next-entry-requires
 next-entry-requires c κs = c .before .before .before .before .before .before .before .before .pre .0 .upper-inside
 
--- src/lib.rt:257:1
 returns-3 : tie.Need-returns-3
 returns-3 c = (
   upper-comes _ _ _ _ _ _ _ (c .before .before .before .before .before .before .upper .given .1) (c .before .before .before .before .before .before .before .before .before .pre .1 .0) (told-past _ _ (c .before .before .before .comes-first .ensures) (c .before .before .if1 .left)) (c .next-entry .ensures),

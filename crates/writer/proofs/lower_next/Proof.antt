@@ -1,29 +1,21 @@
+-- `lower_next` gives the lower run's entry, or nothing where it has none (specs/Joining.antt). Assumes nothing.
 use Rattle.writer.specs.Joining.{lower-comes, neither-comes, lower-behind}
-use native.Mathlib.Omega.{arith}
 use borrow.Author.Needs.{needs}
 use Rattle.writer.proofs.lower_next.Statement.{statement}
 use Rattle.writer.proofs.lower_next.Tie as tie
-use Rattle.writer.proofs.lower_next.Reads as reads
-use Rattle.writer.proofs.lower_next.Lts as lts
-use Rattle.entries.proofs.next_entry.Reads as next-entry-reads
 
--- src/lib.rt:285:21
 enum-known-lower : tie.Need-enum-known-lower
 enum-known-lower c = search needs
 
--- src/lib.rt:286:9
 enum-told : tie.Need-enum-told
 enum-told c = search needs
 
--- src/lib.rt:286:9
 returns : tie.Need-returns
 returns c = (neither-comes _ _ _ _ (c .enum-told .given .1) (c .before .before .before .pre .1 .1 .0), tt)
 
--- src/lib.rt:289:9
 next-entry-requires : tie.Need-next-entry-requires
 next-entry-requires c κs = c .before .before .before .before .before .pre .0 .lower-inside
 
--- src/lib.rt:277:1
 returns-2 : tie.Need-returns-2
 returns-2 c = (
   lower-comes _ _ _ _ _ _ _ (c .before .before .before .lower .given .1) (c .before .before .before .before .before .before .pre .1 .0) (c .before .before .before .before .before .before .pre .1 .1 .0) (c .before .before .before .before .before .before .pre .1 .1 .1) (c .next-entry .ensures),

@@ -1,18 +1,13 @@
+-- `next_joined` gives the next entry of two runs joined. The loop's invariant: what is ahead of both joins to the same, and ascends. Assumes nothing.
 use denote.Ref.{now}
-use mathlib.Core.Path.{_≡_, refl, ap, sym, _∙_}
+use mathlib.Core.Path.{_≡_, refl, sym, _∙_}
 use lib.ListN.{length}
 use Rattle.entries.specs.Run.{ahead}
 use Rattle.laws.specs.Tests.{told-yes}
 use Rattle.writer.specs.Joining.{bothAhead, Rises, both-cancel, cancel-rises, cancel-falls}
 use borrow.Author.Needs.{needs}
-use native.Mathlib.Omega.{arith}
 use Rattle.writer.proofs.next_joined.Statement.{statement}
 use Rattle.writer.proofs.next_joined.Tie as tie
-use Rattle.writer.proofs.next_joined.Reads as reads
-use Rattle.writer.proofs.next_joined.Lts as lts
-use Rattle.writer.proofs.lesser.Reads as lesser-reads
-use Rattle.writer.proofs.one_pair.Reads as one-pair-reads
-use Rattle.writer.proofs.past.Reads as past-reads
 
 abbrev Inv-loop : tie.InvT-loop
 Inv-loop words source above below high₀ low₀ high low = (bothAhead words source high low ≡ bothAhead words source high₀ low₀) × Rises words source high low
@@ -20,38 +15,30 @@ Inv-loop words source above below high₀ low₀ high low = (bothAhead words sou
 abbrev μ-loop : tie.MeasureT-loop
 μ-loop words source above below high₀ low₀ high low = length (ahead words (source .upper) high)
 
--- src/lib.rt:225:5
 loop-holds : tie.Need-loop-holds Inv-loop μ-loop
 loop-holds c = (refl, c .before .before .before .pre .1)
 
--- src/lib.rt:225:11
 one-pair-requires : tie.Need-one-pair-requires Inv-loop μ-loop
 one-pair-requires c κs = search needs
 
--- src/lib.rt:226:9
 past-requires : tie.Need-past-requires Inv-loop μ-loop
 past-requires c κs = c .before .before .before .before .before .before .pre .0 .upper-inside
 
--- src/lib.rt:227:9
 past-requires-2 : tie.Need-past-requires-2 Inv-loop μ-loop
 past-requires-2 c κs = c .before .before .before .before .before .before .before .pre .0 .lower-inside
 
--- src/lib.rt:225:5
 loop-less : tie.Need-loop-less Inv-loop μ-loop
 loop-less c = cancel-falls (now (c .before .before .before .before .before .before .before .before .args .words)) (c .before .before .before .before .before .before .before .before .args .source) (c .before .before .before .before .loop .high) (c .before .before .before .before .loop .low) (c .before .past .result) (told-yes _ _ (c .before .before .before .one-pair .ensures) (c .before .before .if1 .taken)) (c .before .past .ensures)
 
--- src/lib.rt:225:5
 loop-again : tie.Need-loop-again Inv-loop μ-loop
 loop-again c = (
   both-cancel (now (c .before .before .before .before .before .before .before .before .args .words)) (c .before .before .before .before .before .before .before .before .args .source) (c .before .before .before .before .loop .high) (c .before .before .before .before .loop .low) (c .before .past .result) (c .past2 .result) (c .before .before .before .before .loop .inv .1) (told-yes _ _ (c .before .before .before .one-pair .ensures) (c .before .before .if1 .taken)) (c .before .past .ensures) (c .past2 .ensures) ∙ c .before .before .before .before .loop .inv .0,
   cancel-rises (now (c .before .before .before .before .before .before .before .before .args .words)) (c .before .before .before .before .before .before .before .before .args .source) (c .before .before .before .before .loop .high) (c .before .before .before .before .loop .low) (c .before .past .result) (c .past2 .result) (c .before .before .before .before .loop .inv .1) (c .before .past .ensures) (c .past2 .ensures),
 )
 
--- src/lib.rt:229:5
 lesser-requires : tie.Need-lesser-requires Inv-loop μ-loop
 lesser-requires c κs = (c .before .before .before .before .before .before .pre .0, (c .before .before .loop .inv .1, sym (c .before .one-pair .ensures) ∙ c .if1 .left))
 
--- src/lib.rt:215:1
 returns : tie.Need-returns Inv-loop μ-loop
 returns c = (c .lesser .ensures .0 ∙ c .before .before .before .loop .inv .0, c .lesser .ensures .1)
 
