@@ -18,8 +18,6 @@ use entries::Run;
 use entries::Runs;
 use geometry::Geometry;
 use geometry::Plan;
-use slot::Kind;
-use slot::Pid;
 use slot::Slot;
 
 // Adds an entry to the head behind the first slots, so many.
@@ -32,7 +30,7 @@ pub fn add_entry(store: &mut [u32], entry: Entry, behind: u32)
     let count = store[geometry::HEAD_COUNT];
     let place = geometry::HEAD_START + geometry::SLOT_WORDS * behind as usize;
     let end = geometry::HEAD_START + geometry::SLOT_WORDS * count as usize;
-    put_in(store, place, end, index_slot(entry));
+    put_in(store, place, end, entries::index_of(entry));
     store[geometry::HEAD_COUNT] = count + 1;
 }
 
@@ -48,23 +46,6 @@ pub fn remove_entry(store: &mut [u32], at: u32)
     let end = geometry::HEAD_START + geometry::SLOT_WORDS * count as usize;
     take_out(store, place, end);
     store[geometry::HEAD_COUNT] = count - 1;
-}
-
-// The slot of an index entry.
-pub fn index_slot(entry: Entry) -> Slot
-    ensures { λ r. ⌜ r ≡ index (indexed entry) ⌝ }
-{
-    let pair = entry.pair;
-    let kind = if entry.normal {
-        Kind::Normal
-    } else {
-        Kind::Filter
-    };
-    Slot {
-        pair,
-        kind,
-        page: Pid(0),
-    }
 }
 
 // Puts a slot in at a place; the words from there to the end move up by a slot.

@@ -2,7 +2,8 @@
 ghost use Prim.Native.Nat.{_+_, _<_, _≤_};
 ghost use mathlib.Core.Path.{_≡_};
 ghost use lib.ListN.{length};
-ghost use Rattle.entries.specs.Run.{Inside, countIn, placeIn, shown, shownAt, entriesIn, rest, ahead};
+ghost use Rattle.rules.specs.Level.{index};
+ghost use Rattle.entries.specs.Run.{Inside, entry as indexed, countIn, placeIn, shown, shownAt, entriesIn, rest, ahead};
 ghost use Rattle.entries.specs.Levels.{AllInside, levelRun, runsOf, treeIn, aheads};
 ghost use Rattle.geometry.specs.Places.{levelStart, planOf};
 use geometry::Geometry;
@@ -10,6 +11,7 @@ use geometry::Plan;
 use slot::Kind;
 use slot::Pair;
 use slot::Pid;
+use slot::Slot;
 use slot::SlotNo;
 
 // Pages of 64 words from a place on, whose slot counts are read as at most so many. The head is a run of one page.
@@ -205,5 +207,24 @@ fn read_entry(words: &[u32], place: usize) -> Shown
         }),
         Kind::External => Shown::Fence,
         Kind::Internal => Shown::Fence,
+    }
+}
+
+// The slot that an index entry is written in.
+pub fn index_of(entry: Entry) -> Slot
+    ensures { λ r. ⌜ r ≡ index (indexed entry) ⌝ }
+{
+    let pair = entry.pair;
+    if entry.normal {
+        return Slot {
+            pair,
+            kind: Kind::Normal,
+            page: Pid(0),
+        };
+    }
+    Slot {
+        pair,
+        kind: Kind::Filter,
+        page: Pid(0),
     }
 }

@@ -1,6 +1,6 @@
 -- The words after a level is written anew, after levels are rebuilt with fences alone, after a merge, and after settling; each as a function
 -- of the words before, with what it asks of them. Assumes nothing.
-use Prim.Native.Nat.{ℕ, zero, suc, _+_, _≤_}
+use Prim.Native.Nat.{ℕ, zero, suc, _+_, _-_, _≤_}
 use native.Mathlib.Omega.{arith}
 use mathlib.Core.Path.{_≡_, refl}
 use mathlib.Core.Bool.{Bool, true, false, not}
@@ -113,6 +113,10 @@ full-told g w i cap n e q = rw (← e, ← q) (chosen (ltb n cap) refl)
 unfoldable pub settled : Geometry → ℕ → ℕ → List ℕ → Outcome
 settled g zero i w = outcome w i 0
 settled g (suc n) i w = elim (roomAt g w i) [ true ↦ outcome w i 0 | false ↦ after (mergedPages g i w) (settled g n (suc i) (merged g i w)) ]
+
+-- Level i merged and then the next settled, with n levels below level i.
+unfoldable pub mergedOn : Geometry → ℕ → ℕ → List ℕ → Outcome
+mergedOn g n i w = after (mergedPages g i w) (settled g (n - 1) (suc i) (merged g i w))
 
 unfoldable pub Settleable : Geometry → ℕ → ℕ → List ℕ → Type 0
 Settleable g zero i w = PagesWithin g w

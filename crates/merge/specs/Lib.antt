@@ -6,3 +6,4 @@ pub mod Merged
 pub mod Settled
 pub mod Head
 pub mod Runs
+pub mod Source

@@ -1,23 +1,216 @@
 // Merge and settle: a level's index entries joined to those of the level below, through the work area, and the levels above rebuilt
 // with fences alone.
-ghost use Prim.Native.Nat.{suc, _+_, _*_, _≤_, _<_};
+ghost use Prim.Native.Nat.{suc, _+_, _-_, _*_, _≤_, _<_};
 ghost use mathlib.Core.Path.{_≡_};
 ghost use mathlib.Core.Bool.{not, _&&_};
-ghost use lib.ListN.{length};
+ghost use mathlib.Core.List.{[]};
+ghost use lib.ListN.{length, getD, set, take};
 ghost use lib.Seq.{sets};
 ghost use lib.Dec.{ltb};
-ghost use Rattle.geometry.specs.Places.{headStart};
+ghost use Rattle.geometry.specs.Geometry.{bottom};
+ghost use Rattle.geometry.specs.Places.{headStart, workWords};
 ghost use Rattle.rules.specs.Level.{fences};
 ghost use Rattle.written.specs.Run.{wordsOfAll};
 ghost use Rattle.written.specs.Written.{firstPair};
 ghost use Rattle.geometry.specs.Lent.{Lent};
 ghost use Rattle.entries.specs.Levels.{PagesWithin};
-ghost use Rattle.merge.specs.Filling.{headRebuilt, runAt, roomAt};
+ghost use Rattle.rules.specs.Merging.{join};
+ghost use Rattle.entries.specs.Run.{entriesIn};
+ghost use Rattle.merge.specs.Filling.{filled, filledPages, Fillable, headRebuilt, rebuilt, rebuiltPages, Rebuildable, runAt, joined, merged, mergedPages, Mergeable, outcome, roomAt, settled, mergedOn, Settleable};
+ghost use Rattle.merge.specs.Source.{Joinable, sourceAt};
 use edit::count_entries;
 use entries::Run;
 use entries::level_run;
 use geometry::Geometry;
 use geometry::Plan;
+use writer::Source;
+
+// What settling came to: the deepest level merged into, and the pages written.
+pub struct Settled {
+    pub deepest: u32,
+    pub pages: u32,
+}
+
+// Settles a level: above the bottom it is merged on if it holds its capacity or more.
+pub fn settle(store: &mut [u32], work: &mut [u32], g: Geometry, plan: Plan, level: u32) -> Settled
+    requires { ⌜ Lent g plan (now store) ⌝ }
+    requires { ⌜ length (now work) ≡ workWords g ⌝ }
+    requires { ⌜ level < g .levels ⌝ }
+    requires { ⌜ Settleable g (bottom g - level) level (now store) ⌝ }
+    ensures told { λ r. ⌜ outcome (now (store .exit)) (r .deepest) (r .pages) ≡ settled g (bottom g - level) level (now (store .entry)) ⌝ }
+    ensures few { λ r. ⌜ r .pages ≤ 8000 * (bottom g - level) ⌝ }
+{
+    if is_full(store, g, plan, level) {
+        return merge(store, work, g, plan, level);
+    }
+    Settled {
+        deepest: level,
+        pages: 0,
+    }
+}
+
+// Merges a level into the next, which is settled then.
+fn merge(store: &mut [u32], work: &mut [u32], g: Geometry, plan: Plan, level: u32) -> Settled
+    requires { ⌜ Lent g plan (now store) ⌝ }
+    requires { ⌜ length (now work) ≡ workWords g ⌝ }
+    requires { ⌜ suc level < g .levels ⌝ }
+    requires { ⌜ Mergeable g level (now store) × Settleable g (bottom g - suc level) (suc level) (merged g level (now store)) ⌝ }
+    ensures told { λ r. ⌜ outcome (now (store .exit)) (r .deepest) (r .pages) ≡ mergedOn g (bottom g - level) level (now (store .entry)) ⌝ }
+    ensures few { λ r. ⌜ r .pages ≤ 8000 * (bottom g - level) ⌝ }
+{
+    let pages = merge_down(store, work, g, plan, level);
+    let rest = settle(store, work, g, plan, level + 1);
+    Settled {
+        deepest: rest.deepest,
+        pages: pages + rest.pages,
+    }
+}
+
+// Merges a level into the next: that is written anew, the levels above it are rebuilt with fences alone; gives the pages written.
+fn merge_down(store: &mut [u32], work: &mut [u32], g: Geometry, plan: Plan, level: u32) -> u32
+    requires { ⌜ Lent g plan (now store) ⌝ }
+    requires { ⌜ length (now work) ≡ workWords g ⌝ }
+    requires { ⌜ suc level < g .levels ⌝ }
+    requires { ⌜ Mergeable g level (now store) ⌝ }
+    ensures words { λ _. ⌜ now (store .exit) ≡ merged g level (now (store .entry)) ⌝ }
+    ensures pages { λ r. ⌜ r ≡ mergedPages g level (now (store .entry)) ⌝ }
+    ensures few { λ r. ⌜ r ≤ 8000 ⌝ }
+{
+    let joined = join_down(store, work, g, plan, level);
+    let rebuilt = rebuild_above(store, work, g, plan, level);
+    joined + rebuilt
+}
+
+// Writes the next level anew from a level's entries and its own, and gives its pages.
+fn join_down(store: &mut [u32], work: &mut [u32], g: Geometry, plan: Plan, level: u32) -> u32
+    requires { ⌜ Lent g plan (now store) ⌝ }
+    requires { ⌜ length (now work) ≡ workWords g ⌝ }
+    requires { ⌜ suc level < g .levels ⌝ }
+    requires { ⌜ Mergeable g level (now store) ⌝ }
+    ensures words { λ _. ⌜ now (store .exit) ≡ filled g (suc level) (joined g level (now (store .entry))) (now (store .entry)) ⌝ }
+    ensures pages { λ r. ⌜ r ≡ filledPages g (suc level) (joined g level (now (store .entry))) (now (store .entry)) ⌝ }
+{
+    let upper = run_at(store, g, plan, level);
+    let lower = run_at(store, g, plan, level + 1);
+    fill_level(store, work, g, plan, level + 1, upper, lower)
+}
+
+// Rebuilds a level and those above it with fences alone, the head last, and gives the pages of the levels.
+pub fn rebuild_above(
+    store: &mut [u32],
+    work: &mut [u32],
+    g: Geometry,
+    plan: Plan,
+    level: u32,
+) -> u32
+    requires { ⌜ Lent g plan (now store) ⌝ }
+    requires { ⌜ length (now work) ≡ workWords g ⌝ }
+    requires { ⌜ level < g .levels ⌝ }
+    requires { ⌜ Rebuildable g level (now store) ⌝ }
+    ensures words { λ _. ⌜ now (store .exit) ≡ rebuilt g level (now (store .entry)) ⌝ }
+    ensures pages { λ r. ⌜ r ≡ rebuiltPages g level (now (store .entry)) ⌝ }
+{
+    let mut pages = 0;
+    let mut i = level;
+    while 0 < i {
+        pages += rebuild_level(store, work, g, plan, i);
+        i -= 1;
+    }
+    rebuild_head(store, g, plan);
+    pages
+}
+
+// Rebuilds a level with fences alone, and gives its pages.
+pub fn rebuild_level(
+    store: &mut [u32],
+    work: &mut [u32],
+    g: Geometry,
+    plan: Plan,
+    level: u32,
+) -> u32
+    requires { ⌜ Lent g plan (now store) ⌝ }
+    requires { ⌜ length (now work) ≡ workWords g ⌝ }
+    requires { ⌜ (1 ≤ level) × (level < g .levels) ⌝ }
+    requires { ⌜ Fillable g level [] (now store) ⌝ }
+    ensures words { λ _. ⌜ now (store .exit) ≡ filled g level [] (now (store .entry)) ⌝ }
+    ensures pages { λ r. ⌜ r ≡ filledPages g level [] (now (store .entry)) ⌝ }
+{
+    fill_level(
+        store,
+        work,
+        g,
+        plan,
+        level,
+        writer::no_run(),
+        writer::no_run(),
+    )
+}
+
+// Writes a level anew from the entries of two runs joined, over the pages of the level below, and gives its pages.
+pub fn fill_level(
+    store: &mut [u32],
+    work: &mut [u32],
+    g: Geometry,
+    plan: Plan,
+    level: u32,
+    upper: Run,
+    lower: Run,
+) -> u32
+    requires { ⌜ Lent g plan (now store) ⌝ }
+    requires { ⌜ length (now work) ≡ workWords g ⌝ }
+    requires { ⌜ (1 ≤ level) × (level < g .levels) ⌝ }
+    requires { ⌜ Joinable (now store) upper lower ⌝ }
+    requires { ⌜ Fillable g level (join (entriesIn (now store) upper) (entriesIn (now store) lower)) (now store) ⌝ }
+    ensures words { λ _. ⌜ now (store .exit) ≡ filled g level (join (entriesIn (now (store .entry)) upper) (entriesIn (now (store .entry)) lower)) (now (store .entry)) ⌝ }
+    ensures pages { λ r. ⌜ r ≡ filledPages g level (join (entriesIn (now (store .entry)) upper) (entriesIn (now (store .entry)) lower)) (now (store .entry)) ⌝ }
+{
+    let source = source_over(store, g, plan, level, upper, lower);
+    let slots = writer::write_level(store, work, source);
+    put_level(store, work, plan, level, writer::pages_for(slots))
+}
+
+// Copies a level's pages from the work area to its room, with its page count.
+fn put_level(store: &mut [u32], work: &[u32], plan: Plan, level: u32, pages: u32) -> u32
+    requires { ⌜ level ≤ 3 ⌝ }
+    requires { ⌜ getD (plan .starts) level 0 + 64 * getD (plan .rooms) level 0 ≤ length (now store) ⌝ }
+    requires { ⌜ 64 * getD (plan .rooms) level 0 ≤ length (now work) ⌝ }
+    requires { ⌜ 9 ≤ length (now store) ⌝ }
+    requires { ⌜ length (now store) ≤ 600000 ⌝ }
+    ensures words { λ _. ⌜ now (store .exit) ≡ set (sets (now (store .entry)) (getD (plan .starts) level 0) (take (64 * getD (plan .rooms) level 0) (now (work .entry)))) (3 + level) pages ⌝ }
+    ensures pages { λ r. ⌜ r ≡ pages ⌝ }
+{
+    let i = level as usize;
+    let start = plan.starts[i] as usize;
+    let room = plan.rooms[i] as usize;
+    words::copy_in(store, start, work, geometry::PAGE_WORDS * room);
+    store[geometry::PAGE_COUNTS + i] = pages;
+    pages
+}
+
+// What a level is written from: the entries of two runs, over the pages of the level below, of which the bottom has none.
+fn source_over(store: &[u32], g: Geometry, plan: Plan, level: u32, upper: Run, lower: Run) -> Source
+    requires { ⌜ Lent g plan (now store) ⌝ }
+    requires { ⌜ (1 ≤ level) × (level < g .levels) ⌝ }
+    ensures { λ r. ⌜ r ≡ sourceAt g (now (store .entry)) level upper lower ⌝ }
+{
+    if g.levels <= level + 1 {
+        return Source {
+            upper,
+            lower,
+            below_start: plan.store_words,
+            below: 0,
+            fenced: false,
+        };
+    }
+    let i = level as usize + 1;
+    Source {
+        upper,
+        lower,
+        below_start: plan.starts[i],
+        below: store[geometry::PAGE_COUNTS + i],
+        fenced: true,
+    }
+}
 
 // Whether a level is to be merged on: it is above the bottom, and holds its capacity or more.
 fn is_full(store: &[u32], g: Geometry, plan: Plan, level: u32) -> bool

@@ -20,7 +20,7 @@ abbrev pub wordsOfAll : List Slot → List ℕ
 wordsOfAll ss = concat (map wordsOf ss)
 
 -- A slot's words are three, and no two slots have the same.
-words-three : (s : Slot) → length (wordsOf s) ≡ 3
+pub words-three : (s : Slot) → length (wordsOf s) ≡ 3
 unfolding wordsOf
 words-three s = refl
 

@@ -24,12 +24,12 @@ mul-end c = search needs
 add-end : tie.Need-add-end
 add-end c = search needs
 
-index-slot-requires : tie.Need-index-slot-requires
-index-slot-requires c κs = search needs
+index-of-requires : tie.Need-index-of-requires
+index-of-requires c κs = search needs
 
 put-in-requires : tie.Need-put-in-requires
 unfolding index
-put-in-requires c κs = ((omega arith, omega arith), rw (c .index-slot .ensures))
+put-in-requires c κs = ((omega arith, omega arith), rw (c .index-of .ensures))
 
 add-store : tie.Need-add-store
 add-store c = search needs
@@ -42,7 +42,7 @@ same-length c = search needs
 
 returns : tie.Need-returns
 unfolding entryAdded headPlace
-returns c = rw (c .before .before .put-in .ensures, c .before .before .before .index-slot .ensures)
+returns c = rw (c .before .before .put-in .ensures, c .before .before .before .index-of .ensures)
 
 pub add-entry-spec : {M : Type 1} → statement M
 add-entry-spec =
@@ -54,7 +54,7 @@ add-entry-spec =
     cast-end
     mul-end
     add-end
-    index-slot-requires
+    index-of-requires
     put-in-requires
     add-store
     slice-write-store

@@ -1,0 +1,43 @@
+use native.Mathlib.Omega.{arith}
+use borrow.Author.Needs.{needs}
+use Rattle.merge.proofs.rebuild_level.Statement.{statement}
+use Rattle.merge.proofs.rebuild_level.Tie as tie
+use Rattle.merge.proofs.rebuild_level.Reads as reads
+use Rattle.merge.proofs.rebuild_level.Lts as lts
+use Rattle.merge.proofs.fill_level.Reads as fill-level-reads
+use Rattle.writer.proofs.no_run.Reads as no-run-reads
+
+-- src/lib.rt:144:9
+no-run-requires : tie.Need-no-run-requires
+no-run-requires c κs = search needs
+
+-- src/lib.rt:145:9
+no-run-requires-2 : tie.Need-no-run-requires-2
+no-run-requires-2 c κs = search needs
+
+-- src/lib.rt:138:5
+fill-level-requires : tie.Need-fill-level-requires
+fill-level-requires c κs = search needs
+
+-- src/lib.rt:124:1
+same-length : tie.Need-same-length
+same-length c = search needs
+
+-- src/lib.rt:124:1
+same-length-2 : tie.Need-same-length-2
+same-length-2 c = search needs
+
+-- src/lib.rt:124:1
+returns : tie.Need-returns
+returns c = search needs
+
+pub rebuild-level-spec : {M : Type 1} → statement M
+rebuild-level-spec =
+    tie.close
+    (tie.spec
+    no-run-requires
+    no-run-requires-2
+    fill-level-requires
+    same-length
+    same-length-2
+    returns)

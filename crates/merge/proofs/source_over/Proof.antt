@@ -1,0 +1,56 @@
+use native.Mathlib.Omega.{arith}
+use borrow.Author.Needs.{needs}
+use Rattle.merge.proofs.source_over.Statement.{statement}
+use Rattle.merge.proofs.source_over.Tie as tie
+use Rattle.merge.proofs.source_over.Reads as reads
+use Rattle.merge.proofs.source_over.Lts as lts
+
+-- src/lib.rt:196:20
+add-if1 : tie.Need-add-if1
+add-if1 c = search needs
+
+-- src/lib.rt:197:9
+returns : tie.Need-returns
+returns c = search needs
+
+-- src/lib.rt:205:13
+add-i : tie.Need-add-i
+add-i c = search needs
+
+-- src/lib.rt:209:22
+mul-t12 : tie.Need-mul-t12
+mul-t12 c = search needs
+
+-- src/lib.rt:209:22
+element-copy-out-t9 : tie.Need-element-copy-out-t9
+element-copy-out-t9 c = search needs
+
+-- src/lib.rt:210:22
+add-t15 : tie.Need-add-t15
+add-t15 c = search needs
+
+-- src/lib.rt:210:16
+mul-t16 : tie.Need-mul-t16
+mul-t16 c = search needs
+
+-- src/lib.rt:210:16
+shared-slice-read-t18 : tie.Need-shared-slice-read-t18
+shared-slice-read-t18 c = search needs
+
+-- src/lib.rt:191:1
+returns-2 : tie.Need-returns-2
+returns-2 c = search needs
+
+pub source-over-spec : {M : Type 1} → statement M
+source-over-spec =
+    tie.close
+    (tie.spec
+    add-if1
+    returns
+    add-i
+    mul-t12
+    element-copy-out-t9
+    add-t15
+    mul-t16
+    shared-slice-read-t18
+    returns-2)

@@ -1,0 +1,141 @@
+-- What a level is filled from: the entries of two runs joined, over the pages of the level below as they stand; written into the work
+-- area, and copied from there to its room. Assumes nothing.
+use Prim.Native.Nat.{ℕ, zero, suc, _+_, _-_, _*_, _/_, _≤_, _<_, max}
+use native.Mathlib.Omega.{arith}
+use mathlib.Core.Path.{_≡_, refl, sym, ap, _∙_}
+use mathlib.Core.Bool.{Bool, true, false, not}
+use mathlib.Core.List.{List, [], _∷_, _++_, append-assoc}
+use lib.ListN.{length, set, take}
+use lib.Seq.{sets, take-at}
+use lib.Dec.{ltb, eqb}
+use borrow.Author.Tests.{ltb-true, ltb-false}
+use Rattle.laws.specs.Lists.{span, concat}
+use Rattle.laws.specs.Flat.{span-append}
+use Rattle.geometry.specs.declared.Geometry.{Geometry}
+use Rattle.geometry.specs.declared.Plan.{Plan}
+use Rattle.geometry.specs.Geometry.{InRange, bottom, room}
+use Rattle.geometry.specs.Places.{levelStart, storeWords, workWords}
+use Rattle.geometry.specs.Bounds.{room-small, room-least}
+use Rattle.geometry.specs.Apart.{level-after, level-inside}
+use Rattle.geometry.specs.Lent.{Lent}
+use Rattle.slot.specs.declared.Slot.{Slot}
+use Rattle.rules.specs.Tree.{Level}
+use Rattle.rules.specs.Level.{pagesFor, pageOf}
+use Rattle.rules.specs.Merging.{join}
+use Rattle.rules.specs.Store.{levelWords}
+use Rattle.rules.specs.Sound.{pagesOf, levelLaid, ascending}
+use Rattle.entries.specs.declared.Run.{Run}
+use Rattle.entries.specs.Run.{Inside, entriesIn}
+use Rattle.entries.specs.Levels.{PagesWithin, pages-none}
+use Rattle.written.specs.Pages.{levelPage, level-pages}
+use Rattle.written.specs.Parts.{level-laid}
+use Rattle.stored.specs.Parts.{level-words}
+use Rattle.writer.specs.declared.Source.{Source}
+use Rattle.writer.specs.Source.{SourceInside, SourceAscends, levelFrom}
+use Rattle.writer.specs.Writing.{roomIn, WholePages}
+use Rattle.merge.specs.Filling.{filled, filledPages, Fillable, levelPut}
+
+-- Two runs that can be joined: they lie inside the words, and their entries ascend.
+pub record Joinable (w : List ℕ) (upper lower : Run) : Type 0 where
+  pub upper-inside : Inside upper (length w)
+  pub lower-inside : Inside lower (length w)
+  pub upper-ascends : ascending (entriesIn w upper) ≡ true
+  pub lower-ascends : ascending (entriesIn w lower) ≡ true
+
+-- The source of level i.
+unfoldable pub sourceAt : Geometry → List ℕ → ℕ → Run → Run → Source
+sourceAt g w i upper lower = record {
+  upper = upper;
+  lower = lower;
+  «below_start» = levelStart g (suc i);
+  below = pagesOf g w (suc i);
+  fenced = not (eqb i (bottom g));
+}
+
+module _ (g : Geometry) (w : List ℕ) (i : ℕ) (upper lower : Run) where
+  pub source-laid : levelFrom w (sourceAt g w i upper lower) ≡ levelLaid g w i (join (entriesIn w upper) (entriesIn w lower))
+  unfolding levelFrom sourceAt
+  source-laid = sym (level-laid g w i (join (entriesIn w upper) (entriesIn w lower)))
+
+  -- It lies inside a store whose page counts are within the rooms.
+  module _ (plan : Plan) (l : Lent g plan w) (b : PagesWithin g w) where
+    pages-at : (j : ℕ) → 1 ≤ j → pagesOf g w j ≤ room g j
+    pages-at zero h = absurd (omega arith)
+    pages-at (suc zero) h = b .first
+    pages-at (suc (suc zero)) h = b .second
+    pages-at (suc (suc (suc zero))) h = b .third
+    pages-at (suc (suc (suc (suc j)))) h = rw (pages-none g w (suc (suc (suc (suc j)))) (omega (arith, l .in-range .levels-most))) (omega arith)
+
+    pub source-inside : Joinable w upper lower → i < g .levels → SourceInside w (sourceAt g w i upper lower)
+    unfolding sourceAt storeWords
+    source-inside j u =
+        let fit = l .in-range in
+        let few = pages-at (suc i) (omega arith) in
+        record {
+          upper-inside = j .upper-inside;
+          lower-inside = j .lower-inside;
+          below-inside = chosen (ltb (suc i) 4) refl few;
+          below-few = omega (arith, few, room-small g fit (suc i));
+        }
+      where
+        chosen : (c : Bool) → ltb (suc i) 4 ≡ c → pagesOf g w (suc i) ≤ room g (suc i) → levelStart g (suc i) + 64 * pagesOf g w (suc i) ≤ length w
+        chosen true e few =
+            let h : suc i < 4 = ltb-true (suc i) 4 e in
+            omega (arith, few, l .exact, level-after g (suc i), level-inside g (suc i) h)
+        chosen false e few =
+            let h : 4 ≤ suc i = ltb-false (suc i) 4 e in
+            let n : suc i ≡ 4 = omega (arith, h, u, l .in-range .levels-most) in
+            rw (n, pages-none g w 4 (l .in-range .levels-most)) (omega (arith, l .exact))
+
+  pub source-ascends : Joinable w upper lower → SourceAscends w (sourceAt g w i upper lower)
+  unfolding sourceAt
+  source-ascends j = record { upper-ascends = j .upper-ascends; lower-ascends = j .lower-ascends }
+
+-- The work area is of whole pages, and has room for any level.
+module _ (g : Geometry) (fit : InRange g) (work : List ℕ) (exact : length work ≡ workWords g) where
+  work-room : roomIn work ≡ max (room g 1) (max (room g 2) (room g 3))
+  unfolding workWords
+  work-room = omega (arith, exact)
+
+  pub whole-work : WholePages work
+  unfolding workWords
+  whole-work = record {
+    whole = omega (arith, exact);
+    some = omega (arith, work-room, room-least g fit 1 (omega arith) (omega (arith, fit .levels-least)));
+    few = omega (arith, work-room, room-small g fit 1, room-small g fit 2, room-small g fit 3);
+  }
+
+  pub room-in-work : (i : ℕ) → 1 ≤ i → i ≤ 3 → room g i ≤ roomIn work
+  room-in-work zero l h = absurd (omega arith)
+  room-in-work (suc zero) l h = omega (arith, work-room)
+  room-in-work (suc (suc zero)) l h = omega (arith, work-room)
+  room-in-work (suc (suc (suc zero))) l h = omega (arith, work-room)
+  room-in-work (suc (suc (suc (suc i)))) l h = absurd (omega arith)
+
+  pub slots-in-work : (i n : ℕ) → 1 ≤ i → i ≤ 3 → pagesFor n ≤ room g i → n ≤ 21 * roomIn work
+  unfolding pagesFor
+  slots-in-work i n l h few = omega (arith, few, room-in-work i l h)
+
+-- The first pages of a written level are the level in less room.
+concat-joined : {A : Type 0} (xs ys : List (List A)) → concat (xs ++ ys) ≡ concat xs ++ concat ys
+unfolding concat
+concat-joined [] ys = refl
+concat-joined (x ∷ xs) ys = ap (λ (l : List _). x ++ l) (concat-joined xs ys) ∙ sym (append-assoc x (concat xs) (concat ys))
+
+pub level-front : (slots : List Slot) (m n : ℕ) → m ≤ n → take (64 * m) (levelWords slots n) ≡ levelWords slots m
+level-front slots m n h =
+    let e : n ≡ m + (n - m) = omega arith in
+    let split : levelWords slots n ≡ levelWords slots m ++ concat (span (levelPage slots) (0 + m) (n - m)) =
+    level-pages slots n ∙ ap (λ (k : ℕ). concat (span (levelPage slots) 0 k)) e ∙ ap concat (span-append (levelPage slots) 0 m (n - m)) ∙
+    concat-joined (span (levelPage slots) 0 m) (span (levelPage slots) (0 + m) (n - m)) ∙
+    ap (λ (l : List ℕ). l ++ concat (span (levelPage slots) (0 + m) (n - m))) (sym (level-pages slots m)) in
+    rw split (take-at (levelWords slots m) (concat (span (levelPage slots) (0 + m) (n - m))) (64 * m) (level-words slots m))
+
+-- Copied from there with its page count, the level is filled.
+pub level-filled : (g : Geometry) (w work : List ℕ) (i n : ℕ) (upper lower : Run) → room g i ≤ n →
+    work ≡ levelWords (levelFrom w (sourceAt g w i upper lower)) n →
+    set (sets w (levelStart g i) (take (64 * room g i) work)) (3 + i) (pagesFor (length (levelFrom w (sourceAt g w i upper lower)))) ≡
+    filled g i (join (entriesIn w upper) (entriesIn w lower)) w
+unfolding filled levelPut
+level-filled g w work i n upper lower h e =
+    rw (e, level-front (levelFrom w (sourceAt g w i upper lower)) (room g i) n h, source-laid g w i upper lower) refl
