@@ -7,3 +7,4 @@ pub mod Settled
 pub mod Head
 pub mod Runs
 pub mod Source
+pub mod Joined

@@ -17,7 +17,7 @@ ghost use Rattle.entries.specs.Levels.{PagesWithin};
 ghost use Rattle.rules.specs.Merging.{join};
 ghost use Rattle.entries.specs.Run.{entriesIn};
 ghost use Rattle.merge.specs.Filling.{filled, filledPages, Fillable, headRebuilt, rebuilt, rebuiltPages, Rebuildable, runAt, joined, merged, mergedPages, Mergeable, outcome, roomAt, settled, mergedOn, Settleable};
-ghost use Rattle.merge.specs.Source.{Joinable, sourceAt};
+ghost use Rattle.merge.specs.Source.{Joinable, PutInside, sourceAt};
 use edit::count_entries;
 use entries::Run;
 use entries::level_run;
@@ -171,11 +171,7 @@ pub fn fill_level(
 
 // Copies a level's pages from the work area to its room, with its page count.
 fn put_level(store: &mut [u32], work: &[u32], plan: Plan, level: u32, pages: u32) -> u32
-    requires { ⌜ level ≤ 3 ⌝ }
-    requires { ⌜ getD (plan .starts) level 0 + 64 * getD (plan .rooms) level 0 ≤ length (now store) ⌝ }
-    requires { ⌜ 64 * getD (plan .rooms) level 0 ≤ length (now work) ⌝ }
-    requires { ⌜ 9 ≤ length (now store) ⌝ }
-    requires { ⌜ length (now store) ≤ 600000 ⌝ }
+    requires { ⌜ PutInside plan level (now store) (now work) ⌝ }
     ensures words { λ _. ⌜ now (store .exit) ≡ set (sets (now (store .entry)) (getD (plan .starts) level 0) (take (64 * getD (plan .rooms) level 0) (now (work .entry)))) (3 + level) pages ⌝ }
     ensures pages { λ r. ⌜ r ≡ pages ⌝ }
 {

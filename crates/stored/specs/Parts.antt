@@ -46,7 +46,7 @@ levels-end : (g : Geometry) (n : ℕ) → levelStart g (n + g .levels) ≡ level
 levels-end g zero = rw (zero-add (g .levels)) refl
 levels-end g (suc n) = rw (suc-add n (g .levels)) (omega (arith, level-after g (n + g .levels), room-none g (n + g .levels) (omega arith), levels-end g n))
 
-store-end : (g : Geometry) → InRange g → levelStart g (g .levels) ≡ storeWords g
+pub store-end : (g : Geometry) → InRange g → levelStart g (g .levels) ≡ storeWords g
 unfolding storeWords
 store-end g fit =
     let e : 4 - g .levels + g .levels ≡ 4 = omega (arith, fit .levels-most) in

@@ -1,3 +1,6 @@
+use mathlib.Core.Path.{_≡_, refl, sym, _∙_}
+use denote.Ref.{now}
+use Rattle.merge.specs.Joined.{levels-joinable, levels-fillable, levels-told}
 use native.Mathlib.Omega.{arith}
 use borrow.Author.Needs.{needs}
 use Rattle.merge.proofs.join_down.Statement.{statement}
@@ -25,7 +28,22 @@ add-fill-level c = search needs
 
 -- src/lib.rt:95:5
 fill-level-requires : tie.Need-fill-level-requires
-fill-level-requires c κs = search needs
+fill-level-requires c κs =
+        let g = c .before .before .before .before .before .before .before .before .args .g in
+    let w = now (c .before .before .before .before .before .before .before .before .args .store) in
+    let i = c .before .before .before .before .before .before .before .before .args .level in (
+      c .before .before .before .before .before .before .before .before .pre .0,
+      (
+        c .before .before .before .before .before .before .before .before .pre .1 .0,
+        (
+          (omega arith, omega arith),
+          (
+            levels-joinable g w i (c .before .before .before .before .run-at .ensures) (c .before .before .run-at2 .ensures) (c .before .before .before .before .before .before .before .before .args .plan) (c .before .before .before .before .before .before .before .before .pre .0) (c .before .before .before .before .before .before .before .before .pre .1 .1 .0) (c .before .before .before .before .before .before .before .before .pre .1 .1 .1),
+            levels-fillable g w i (c .before .before .before .before .run-at .ensures) (c .before .before .run-at2 .ensures) (c .before .before .before .before .before .before .before .before .pre .1 .1 .1),
+          ),
+        ),
+      ),
+    )
 
 -- src/lib.rt:85:1
 same-length : tie.Need-same-length
@@ -37,7 +55,7 @@ same-length-2 c = search needs
 
 -- src/lib.rt:85:1
 returns : tie.Need-returns
-returns c = search needs
+returns c = levels-told (c .before .before .before .before .before .before .before .before .before .before .before .before .before .args .g) (now (c .before .before .before .before .before .before .before .before .before .before .before .before .before .args .store)) (c .before .before .before .before .before .before .before .before .before .before .before .before .before .args .level) (c .before .before .before .before .before .before .before .before .before .run-at .ensures) (c .before .before .before .before .before .before .before .run-at2 .ensures) (c .before .before .before .before .fill-level .ensures .0) (c .before .before .before .before .fill-level .ensures .1)
 
 pub join-down-spec : {M : Type 1} → statement M
 join-down-spec =

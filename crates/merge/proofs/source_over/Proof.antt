@@ -1,3 +1,9 @@
+use Prim.Native.Nat.{_+_}
+use mathlib.Core.Path.{_≡_, refl, sym, _∙_}
+use denote.Ref.{now}
+use Rattle.geometry.specs.Lent.{starts-at, plan-words}
+use Rattle.entries.specs.Levels.{pages-there}
+use Rattle.merge.specs.Source.{source-bottom, source-above}
 use native.Mathlib.Omega.{arith}
 use borrow.Author.Needs.{needs}
 use Rattle.merge.proofs.source_over.Statement.{statement}
@@ -11,7 +17,7 @@ add-if1 c = search needs
 
 -- src/lib.rt:197:9
 returns : tie.Need-returns
-returns c = search needs
+returns c = source-bottom (c .before .before .args .g) (now (c .before .before .args .store)) (c .before .before .args .level) _ 0 (c .before .before .args .upper) (c .before .before .args .lower) (c .before .before .pre .0 .in-range) (omega (arith, c .before .before .pre .1 .1)) (plan-words (c .before .before .args .t3) (c .before .before .args .g) (c .before .before .pre .0 .planned))
 
 -- src/lib.rt:205:13
 add-i : tie.Need-add-i
@@ -39,7 +45,7 @@ shared-slice-read-t18 c = search needs
 
 -- src/lib.rt:191:1
 returns-2 : tie.Need-returns-2
-returns-2 c = search needs
+returns-2 c = source-above (c .before .before .before .before .args .g) (now (c .before .before .before .before .args .store)) (c .before .before .before .before .args .level) _ _ (c .before .before .before .before .args .upper) (c .before .before .before .before .args .lower) (omega arith) (starts-at (c .before .before .before .before .args .g) (c .before .before .before .before .args .t3) (now (c .before .before .before .before .args .store)) (c .before .before .before .before .pre .0) (c .before .before .before .before .args .level + 1) (omega arith) (omega (arith, c .before .before .before .before .pre .0 .in-range .levels-most))) (sym (pages-there (c .before .before .before .before .args .g) (now (c .before .before .before .before .args .store)) (c .before .before .before .before .args .level + 1) (omega arith)))
 
 pub source-over-spec : {M : Type 1} → statement M
 source-over-spec =
