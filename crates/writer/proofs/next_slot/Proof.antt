@@ -28,11 +28,10 @@ entry-next-requires : tie.Need-entry-next-requires
 entry-next-requires c κs = c .before .before .before .before .before .before .pre .0 .below-inside
 
 fence-slot-requires-2 : tie.Need-fence-slot-requires-2
-fence-slot-requires-2 c κs =
-    (
-      c .before .before .before .before .before .before .before .before .pre .0,
-      (c .before .before .before .before .before .before .before .before .pre .1 .0, (c .before .before .before .before .before .before .before .before .pre .1 .1, due (now (c .before .before .before .before .before .before .before .before .args .store)) (c .before .before .before .before .before .before .before .before .args .source) (c .before .before .before .before .before .before .before .before .args .pen) _ _ _ (c .before .before .before .before .before .next .given .1) ∙ told-no _ _ (c .before .entry-next .ensures) (c .if1 .taken))),
-    )
+fence-slot-requires-2 c κs = (
+  c .before .before .before .before .before .before .before .before .pre .0,
+  (c .before .before .before .before .before .before .before .before .pre .1 .0, (c .before .before .before .before .before .before .before .before .pre .1 .1, due (now (c .before .before .before .before .before .before .before .before .args .store)) (c .before .before .before .before .before .before .before .before .args .source) (c .before .before .before .before .before .before .before .before .args .pen) _ _ _ (c .before .before .before .before .before .next .given .1) ∙ told-no _ _ (c .before .entry-next .ensures) (c .if1 .taken))),
+)
 
 returns-2 : tie.Need-returns-2
 returns-2 c = c .fence-slot2 .ensures
@@ -50,11 +49,10 @@ inner-fence-requires : tie.Need-inner-fence-requires
 inner-fence-requires c κs = search needs
 
 returns-3 : tie.Need-returns-3
-returns-3 c =
-    (
-      inner-fed _ _ _ _ _ _ (c .before .before .before .before .before .before .before .before .next .given .1) _ (told-past _ _ (c .before .before .before .before .entry-next .ensures) (c .before .before .before .if1 .left)) (told-yes _ _ (c .before .before .fenced-at .ensures) (c .before .if2 .taken)) (c .inner-fence .ensures),
-      inner-behind _ _ _ _ _ _ (c .before .before .before .before .before .before .before .before .next .given .1) _ (c .before .before .before .before .before .before .before .before .before .before .before .pre .0) (c .before .before .before .before .before .before .before .before .before .before .before .pre .1 .0) (c .inner-fence .ensures),
-    )
+returns-3 c = (
+  inner-fed _ _ _ _ _ _ (c .before .before .before .before .before .before .before .before .next .given .1) _ (told-past _ _ (c .before .before .before .before .entry-next .ensures) (c .before .before .before .if1 .left)) (told-yes _ _ (c .before .before .fenced-at .ensures) (c .before .if2 .taken)) (c .inner-fence .ensures),
+  inner-behind _ _ _ _ _ _ (c .before .before .before .before .before .before .before .before .next .given .1) _ (c .before .before .before .before .before .before .before .before .before .before .before .pre .0) (c .before .before .before .before .before .before .before .before .before .before .before .pre .1 .0) (c .inner-fence .ensures),
+)
 
 index-of-requires : tie.Need-index-of-requires
 index-of-requires c κs = search needs
@@ -63,11 +61,10 @@ next-joined-requires : tie.Need-next-joined-requires
 next-joined-requires c κs = (c .before .before .before .before .before .before .before .before .before .before .before .pre .0, subst (JoinedRises (now (c .before .before .before .before .before .before .before .before .before .before .before .args .store)) (c .before .before .before .before .before .before .before .before .before .before .before .args .source)) (c .before .before .before .before .before .before .before .before .next .given .1) (c .before .before .before .before .before .before .before .before .before .before .before .pre .1 .0 .ahead-rises))
 
 returns-4 : tie.Need-returns-4
-returns-4 c =
-    (
-      entry-fed _ _ _ _ _ _ (c .before .before .before .before .before .before .before .before .before .next .given .1) _ _ (told-past _ _ (c .before .before .before .before .before .entry-next .ensures) (c .before .before .before .before .if1 .left)) (sym (c .before .before .before .fenced-at .ensures) ∙ c .before .before .if2 .left) (c .before .index-of .ensures) (c .next-joined .ensures .0),
-      entry-behind _ _ _ _ _ _ (c .before .before .before .before .before .before .before .before .before .next .given .1) _ _ (c .before .before .before .before .before .before .before .before .before .before .before .before .pre .1 .0) (c .before .index-of .ensures) (c .next-joined .ensures .1),
-    )
+returns-4 c = (
+  entry-fed _ _ _ _ _ _ (c .before .before .before .before .before .before .before .before .before .next .given .1) _ _ (told-past _ _ (c .before .before .before .before .before .entry-next .ensures) (c .before .before .before .before .if1 .left)) (sym (c .before .before .before .fenced-at .ensures) ∙ c .before .before .if2 .left) (c .before .index-of .ensures) (c .next-joined .ensures .0),
+  entry-behind _ _ _ _ _ _ (c .before .before .before .before .before .before .before .before .before .next .given .1) _ _ (c .before .before .before .before .before .before .before .before .before .before .before .before .pre .1 .0) (c .before .index-of .ensures) (c .next-joined .ensures .1),
+)
 
 pub next-slot-spec : {M : Type 1} → statement M
 next-slot-spec =
