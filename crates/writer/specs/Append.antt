@@ -5,8 +5,8 @@ use native.Mathlib.Numerals.{add-one}
 use native.Mathlib.Omega.{arith}
 use mathlib.Core.Path.{_≡_, refl, sym, ap, _∙_}
 use mathlib.Core.Bool.{Bool, true, false}
-use mathlib.Core.List.{List, [], _∷_, _++_, map, append-assoc, append-nil}
-use lib.ListN.{length, take, drop, set, replicate, length-set, length-append, length-drop, length-replicate, replicate-append-replicate, drop-of-length-le}
+use mathlib.Core.List.{List, [], _∷_, _++_, append-assoc, append-nil}
+use lib.ListN.{length, drop, set, replicate, length-set, length-append, length-drop, length-replicate, replicate-append-replicate, drop-of-length-le}
 use lib.Seq.{sets, sets-eq, set-append-left, length-sets, take-append-le, drop-append-le, take-all}
 use lib.Dec.{ltb}
 use borrow.Author.Tests.{ltb-true, ltb-false}
@@ -92,7 +92,11 @@ run-more ss s h =
     let e : 3 * length ss ≡ length (wordsOfAll ss) + 0 = omega (arith, words-length ss) in
     let k : 3 * (21 - length ss) ≡ suc (suc (suc (3 * (20 - length ss)))) = omega arith in
     let n : 3 * (21 - length (ss ++ s ∷ [])) ≡ 3 * (20 - length ss) = omega (arith, length-append ss (s ∷ [])) in
-    rw (n, words-more ss s) (rw (e, k) (sets-right (wordsOfAll ss) (replicate (suc (suc (suc (3 * (20 - length ss))))) erased) 0 (wordsOf s) ∙ rw (blank-takes (3 * (20 - length ss)) s) (sym (append-assoc (wordsOfAll ss) (wordsOf s) (replicate (3 * (20 - length ss)) erased)))))
+    let rest : List ℕ = replicate (3 * (20 - length ss)) erased in
+    rw (n, words-more ss s)
+    (rw (e, k)
+    (sets-right (wordsOfAll ss) (replicate (suc (suc (suc (3 * (20 - length ss))))) erased) 0 (wordsOf s) ∙
+    rw (blank-takes (3 * (20 - length ss)) s) (sym (append-assoc (wordsOfAll ss) (wordsOf s) rest))))
 
 page-more : (c : ℕ) (ss : List Slot) (s : Slot) → length ss < 21 →
     set (sets (c ∷ runWords ss 21) (1 + 3 * length ss) (wordsOf s)) 0 (length ss + 1) ≡ pageWords (ss ++ s ∷ [])
@@ -141,7 +145,8 @@ module _ (slots : List Slot) (s : Slot) where
       used : levelPage (slots ++ s ∷ []) page ≡ pageWords (drop (21 * page) slots ++ s ∷ [])
       used = page-used (slots ++ s ∷ []) page (omega (arith, more-length)) ∙ ap pageWords page-longer
 
-      takes : (c : ℕ) → set (sets (c ∷ runWords (drop (21 * page) slots) 21) (1 + 3 * (length slots % 21)) (wordsOf s)) 0 (length slots % 21 + 1) ≡ levelPage (slots ++ s ∷ []) page
+      takes : (c : ℕ) →
+          set (sets (c ∷ runWords (drop (21 * page) slots) 21) (1 + 3 * (length slots % 21)) (wordsOf s)) 0 (length slots % 21 + 1) ≡ levelPage (slots ++ s ∷ []) page
       takes c = rw (← last-length) (page-more c (drop (21 * page) slots) s (omega (arith, last-length))) ∙ sym used
 
       chosen : (b : Bool) → ltb page (pagesFor (length slots)) ≡ b →

@@ -16,7 +16,6 @@ use Rattle.entries.specs.declared.Entry.{Entry}
 use Rattle.entries.specs.declared.Next.{Next}
 use Rattle.entries.specs.Run.{entry, entriesIn, ahead}
 use Rattle.entries.specs.Ascending.{From, from-ascending}
-use Rattle.written.specs.Written.{firstPair}
 use Rattle.written.specs.Decided.{laid-whole}
 use Rattle.written.specs.Stream.{fencedAt, entryNext, laidFrom, wanted, left, ended, laid-next, laid-ended, fence-passed, entry-passed, internal-passed}
 use Rattle.writer.specs.declared.Source.{Source}
@@ -25,7 +24,7 @@ use Rattle.writer.specs.declared.Joined.the-variants.{First, Empty}
 use Rattle.writer.specs.declared.Pen.{Pen}
 use Rattle.writer.specs.declared.Fed.{Fed}
 use Rattle.writer.specs.declared.Fed.the-variants.{Slot as SlotFed, Ended}
-use Rattle.writer.specs.Source.{SourceInside, SourceAscends, levelFrom}
+use Rattle.writer.specs.Source.{SourceInside, SourceAscends, firstBelow, levelFrom}
 use Rattle.writer.specs.Joining.{bothAhead, joinedAhead, Rises, JoinedRises}
 
 -- What the writing of entries has next, case by case -------------------------------------------------------------------------------------------
@@ -65,7 +64,7 @@ module _ (w : List ℕ) (source : Source) where
   -- The slots still to come at a pen, and those that a fed slot begins.
   unfoldable pub toCome : Pen → List Slot
   toCome pen =
-      laidFrom (source .fenced) (firstPair w (source .«below_start»)) (source .below) (pen .position) (pen .fence) (joinedAhead w source (pen .next))
+      laidFrom (source .fenced) (firstBelow w source) (source .below) (pen .position) (pen .fence) (joinedAhead w source (pen .next))
 
   abbrev pub fedSlots : Fed → List Slot
   fedSlots (SlotFed s pen) = s ∷ toCome pen
@@ -73,7 +72,7 @@ module _ (w : List ℕ) (source : Source) where
 
   -- Whether an entry comes next at a pen.
   unfoldable pub entryDue : Pen → Bool
-  entryDue pen = entryComes (firstPair w (source .«below_start»)) (source .below) (pen .fence) (joinedAhead w source (pen .next))
+  entryDue pen = entryComes (firstBelow w source) (source .below) (pen .fence) (joinedAhead w source (pen .next))
 
   -- A pen stands at a fence that there is, or behind the last, and what is ahead of it ascends.
   pub record PenReady (pen : Pen) : Type 0 where
@@ -102,21 +101,21 @@ module _ (w : List ℕ) (source : Source) (pen : Pen) where
   behind fence next = record { position = pen .position + 1; fence = fence; next = next }
 
   -- Where no entry comes next, the next fence is fed, and nothing where none is left.
-  pub fence-fed : (s : Slot) → entryDue w source pen ≡ false → pen .fence < source .below → s ≡ fenceOf (firstPair w (source .«below_start»)) (pen .fence) →
+  pub fence-fed : (s : Slot) → entryDue w source pen ≡ false → pen .fence < source .below → s ≡ fenceOf (firstBelow w source) (pen .fence) →
       s ∷ toCome w source (behind (pen .fence + 1) (pen .next)) ≡ toCome w source pen
   unfolding toCome entryDue
   fence-fed s none b e =
-      rw e (sym (laid-fence (source .fenced) (firstPair w (source .«below_start»)) (source .below) (pen .position) (pen .fence) (joinedAhead w source (pen .next)) none b))
+      rw e (sym (laid-fence (source .fenced) (firstBelow w source) (source .below) (pen .position) (pen .fence) (joinedAhead w source (pen .next)) none b))
 
   pub fences-over : entryDue w source pen ≡ false → source .below ≤ pen .fence → [] ≡ toCome w source pen
   unfolding toCome entryDue
   fences-over none b =
-      sym (laid-over (source .fenced) (firstPair w (source .«below_start»)) (source .below) (pen .position) (pen .fence) (joinedAhead w source (pen .next)) none b)
+      sym (laid-over (source .fenced) (firstBelow w source) (source .below) (pen .position) (pen .fence) (joinedAhead w source (pen .next)) none b)
 
-  pub fence-behind : (s : Slot) → SourceInside w source → PenReady w source pen → pen .fence < source .below → s ≡ fenceOf (firstPair w (source .«below_start»)) (pen .fence) →
+  pub fence-behind : (s : Slot) → SourceInside w source → PenReady w source pen → pen .fence < source .below → s ≡ fenceOf (firstBelow w source) (pen .fence) →
       Behind w source pen s (behind (pen .fence + 1) (pen .next))
   fence-behind s inside ready b e = record {
-    page-fits = omega (arith, inside .below-few, ap (λ (t : Slot). t .page .0) e, fence-page (firstPair w (source .«below_start»)) (pen .fence));
+    page-fits = omega (arith, inside .below-few, ap (λ (t : Slot). t .page .0) e, fence-page (firstBelow w source) (pen .fence));
     one-further = refl;
     still-ready = record { fence-most = omega arith; ahead-rises = ready .ahead-rises };
   }
@@ -127,17 +126,17 @@ module _ (w : List ℕ) (source : Source) (pen : Pen) where
   none-due e = rw e refl
 
   module _ (e : Entry) (upper lower : Next) (found : pen .next ≡ First e upper lower) where
-    pub due : entryDue w source pen ≡ entryNext (firstPair w (source .«below_start»)) (source .below) (pen .fence) (e .pair)
+    pub due : entryDue w source pen ≡ entryNext (firstBelow w source) (source .below) (pen .fence) (e .pair)
     unfolding entryDue entryComes
     due = rw found refl
 
     -- An entry that would be first in a page has its internal fence fed before it.
-    pub inner-fed : (s : Slot) → entryNext (firstPair w (source .«below_start»)) (source .below) (pen .fence) (e .pair) ≡ true → fencedAt (source .fenced) (pen .position) ≡ true →
+    pub inner-fed : (s : Slot) → entryNext (firstBelow w source) (source .below) (pen .fence) (e .pair) ≡ true → fencedAt (source .fenced) (pen .position) ≡ true →
         s ≡ internal (e .pair) (pen .fence - 1) → s ∷ toCome w source (behind (pen .fence) (First e upper lower)) ≡ toCome w source pen
     unfolding toCome
     inner-fed s due fenced q =
         rw (q, found)
-        (sym (laid-inner (source .fenced) (firstPair w (source .«below_start»)) (source .below) (pen .position) (pen .fence) (entry e) (bothAhead w source upper lower) due fenced))
+        (sym (laid-inner (source .fenced) (firstBelow w source) (source .below) (pen .position) (pen .fence) (entry e) (bothAhead w source upper lower) due fenced))
 
     pub inner-behind : (s : Slot) → SourceInside w source → PenReady w source pen → s ≡ internal (e .pair) (pen .fence - 1) →
         Behind w source pen s (behind (pen .fence) (First e upper lower))
@@ -149,13 +148,13 @@ module _ (w : List ℕ) (source : Source) (pen : Pen) where
     }
 
     -- Any other entry is fed itself, and what is joined behind it comes next.
-    pub entry-fed : (s : Slot) (next : Joined) → entryNext (firstPair w (source .«below_start»)) (source .below) (pen .fence) (e .pair) ≡ true →
+    pub entry-fed : (s : Slot) (next : Joined) → entryNext (firstBelow w source) (source .below) (pen .fence) (e .pair) ≡ true →
         fencedAt (source .fenced) (pen .position) ≡ false → s ≡ index (entry e) → joinedAhead w source next ≡ bothAhead w source upper lower →
         s ∷ toCome w source (behind (pen .fence) next) ≡ toCome w source pen
     unfolding toCome
     entry-fed s next due fenced q j =
         rw (q, found, j)
-        (sym (laid-entry (source .fenced) (firstPair w (source .«below_start»)) (source .below) (pen .position) (pen .fence) (entry e) (bothAhead w source upper lower) due fenced))
+        (sym (laid-entry (source .fenced) (firstBelow w source) (source .below) (pen .position) (pen .fence) (entry e) (bothAhead w source upper lower) due fenced))
 
     pub entry-behind : (s : Slot) (next : Joined) → PenReady w source pen → s ≡ index (entry e) → JoinedRises w source next → Behind w source pen s (behind (pen .fence) next)
     unfolding index
@@ -179,4 +178,4 @@ module _ (w : List ℕ) (source : Source) (upper lower : Next) (above : ahead w 
   unfolding toCome levelFrom bothAhead
   all-to-come next e =
       rw (e, above, beneath)
-      (laid-whole (source .fenced) (firstPair w (source .«below_start»)) (source .below) (join (entriesIn w (source .upper)) (entriesIn w (source .lower))))
+      (laid-whole (source .fenced) (firstBelow w source) (source .below) (join (entriesIn w (source .upper)) (entriesIn w (source .lower))))

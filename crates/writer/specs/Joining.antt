@@ -1,5 +1,5 @@
 -- Two runs' index entries joined, from what stands next in each run, as the clauses of src/lib.rt cite it. Assumes nothing.
-use Prim.Native.Nat.{ℕ, suc, _≤_, _<_}
+use Prim.Native.Nat.{ℕ, _<_}
 use native.Mathlib.Omega.{arith}
 use mathlib.Core.Path.{_≡_, refl, sym, ap, _∙_, subst}
 use mathlib.Core.Bool.{Bool, true, false}
@@ -100,7 +100,8 @@ module _ (w : List ℕ) (source : Source) where
       ahead w (source .lower) l ≡ rest w (source .lower) d → entry f ∷ bothAhead upper l ≡ bothAhead upper lower
   unfolding bothAhead join
   lower-comes upper lower l f d q a t s p =
-      rw (q, p) (comes upper (a .upper-rises) (subst (λ (n : Next). From 0 (ahead w (source .lower) n)) q (a .lower-rises)) (ap (upperFirst upper) (sym q) ∙ t) (ap (onePair upper) (sym q) ∙ s))
+      let rises : From 0 (entry f ∷ rest w (source .lower) d) = subst (λ (n : Next). From 0 (ahead w (source .lower) n)) q (a .lower-rises) in
+      rw (q, p) (comes upper (a .upper-rises) rises (ap (upperFirst upper) (sym q) ∙ t) (ap (onePair upper) (sym q) ∙ s))
     where
       comes : (upper : Next) → From 0 (ahead w (source .upper) upper) → From 0 (entry f ∷ rest w (source .lower) d) → upperFirst upper (Found f d) ≡ false →
           onePair upper (Found f d) ≡ false →

@@ -6,6 +6,7 @@ use mathlib.Core.Bool.{true}
 use mathlib.Core.List.{List, []}
 use lib.ListN.{length}
 use Rattle.laws.specs.Lists.{span, concat}
+use Rattle.slot.specs.declared.Pair.{Pair}
 use Rattle.slot.specs.declared.Slot.{Slot}
 use Rattle.rules.specs.Merging.{join}
 use Rattle.rules.specs.Sound.{entriesOf, ascending}
@@ -26,10 +27,14 @@ pub record SourceAscends (w : List ℕ) (source : Source) : Type 0 where
   pub upper-ascends : ascending (entriesIn w (source .upper)) ≡ true
   pub lower-ascends : ascending (entriesIn w (source .lower)) ≡ true
 
+-- The pair in the first slot of a page below, as it stands.
+abbrev pub firstBelow : List ℕ → Source → ℕ → Pair
+firstBelow w source = firstPair w (source .«below_start»)
+
 -- The slots of the level that is written: the two levels' entries joined, over the pages below as they stand.
 unfoldable pub levelFrom : List ℕ → Source → List Slot
 levelFrom w source =
-    laidOver (source .fenced) (firstPair w (source .«below_start»)) (source .below) (join (entriesIn w (source .upper)) (entriesIn w (source .lower)))
+    laidOver (source .fenced) (firstBelow w source) (source .below) (join (entriesIn w (source .upper)) (entriesIn w (source .lower)))
 
 -- A run that has no entries: a level of fences alone is written from two of them.
 unfoldable pub emptyRun : Run

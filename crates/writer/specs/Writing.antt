@@ -3,7 +3,7 @@ use Prim.Native.Nat.{ℕ, suc, _+_, _-_, _*_, _/_, _^_, _≤_, _<_}
 use native.Mathlib.Nat.{sub-zero}
 use native.Mathlib.Omega.{arith}
 use native.Mathlib.Numerals.{add-one}
-use mathlib.Core.Path.{_≡_, refl, sym, ap, _∙_, subst}
+use mathlib.Core.Path.{_≡_, sym, ap, _∙_, subst}
 use mathlib.Core.List.{List, [], _∷_, _++_}
 use lib.ListN.{length, getD, take, drop, set, replicate, length-drop}
 use lib.Seq.{sets, take-suc, drop-cons, take-all, length-take-le}
@@ -45,7 +45,8 @@ module _ (w : List ℕ) (source : Source) (room : ℕ) where
     pub reached : pen .position ≤ length (levelFrom w source)
     pub ready : PenReady w source pen
 
-  pub going-begins : (work : List ℕ) (pen : Pen) → work ≡ levelWords [] room → toCome w source pen ≡ levelFrom w source → PenReady w source pen → pen .position ≡ 0 → Going work pen
+  pub going-begins : (work : List ℕ) (pen : Pen) → work ≡ levelWords [] room → toCome w source pen ≡ levelFrom w source → PenReady w source pen →
+      pen .position ≡ 0 → Going work pen
   going-begins work pen e t r z = record {
     so-far = e ∙ ap (λ (n : ℕ). levelWords (take n (levelFrom w source)) room) (sym z);
     others = t ∙ ap (λ (n : ℕ). drop n (levelFrom w source)) (sym z);

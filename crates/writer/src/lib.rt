@@ -2,7 +2,7 @@
 // the level below, slot by slot into a lent work area that is never read.
 ghost use Prim.Native.Nat.{_+_, _-_, _*_, _/_, _^_, _≤_, _<_};
 ghost use mathlib.Core.Path.{_≡_};
-ghost use mathlib.Core.Bool.{true, false};
+ghost use mathlib.Core.Bool.{false};
 ghost use mathlib.Core.List.{[]};
 ghost use lib.ListN.{length, drop, replicate};
 ghost use lib.Seq.{sets};
