@@ -35,11 +35,11 @@ pub level-pages : (slots : List Slot) (n : ℕ) → levelWords slots n ≡ conca
 unfolding levelWords levelPage
 level-pages slots n = refl
 
-page-used : (slots : List Slot) (p : ℕ) → p < pagesFor (length slots) → levelPage slots p ≡ pageWords (pageOf slots p)
+pub page-used : (slots : List Slot) (p : ℕ) → p < pagesFor (length slots) → levelPage slots p ≡ pageWords (pageOf slots p)
 unfolding levelPage
 page-used slots p h = rw (lt-ltb p (pagesFor (length slots)) h, levelPage) refl
 
-page-unused : (slots : List Slot) (p : ℕ) → pagesFor (length slots) ≤ p → levelPage slots p ≡ replicate 64 erased
+pub page-unused : (slots : List Slot) (p : ℕ) → pagesFor (length slots) ≤ p → levelPage slots p ≡ replicate 64 erased
 unfolding levelPage
 page-unused slots p h = rw (le-ltb p (pagesFor (length slots)) h, levelPage) refl
 
