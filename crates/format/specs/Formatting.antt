@@ -1,9 +1,10 @@
 -- The words of the store of the empty set as they are written, over erased words: the directory and the head's fence, then each level's first
 -- page. When all levels have theirs, the words are that store. Assumes nothing.
 use Prim.Native.Nat.{ℕ, zero, suc, _+_, _-_, _*_, _≤_, _<_}
-use native.Mathlib.Nat.{add-zero, zero-add}
+use native.Mathlib.Numerals.{add-one}
 use native.Mathlib.Omega.{arith}
 use mathlib.Core.Path.{_≡_, refl, sym, ap, _∙_}
+use mathlib.Core.Logic.{_≢_}
 use mathlib.Core.Bool.{Bool, true, false}
 use mathlib.Core.List.{List, [], _∷_, _++_}
 use lib.ListN.{length, getD, take, drop, replicate, length-replicate}
@@ -17,7 +18,7 @@ use Rattle.geometry.specs.declared.Geometry.{Geometry}
 use Rattle.geometry.specs.Geometry.{InRange, room}
 use Rattle.geometry.specs.Places.{erased, headStart, headRoom, levelStart, storeWords}
 use Rattle.geometry.specs.Bounds.{room-least}
-use Rattle.geometry.specs.Apart.{level-one, level-after, level-inside, level-before}
+use Rattle.geometry.specs.Apart.{level-after, level-inside, level-before}
 use Rattle.slot.specs.declared.Slot.{Slot}
 use Rattle.slot.specs.Slot.{wordsOf}
 use Rattle.rules.specs.Level.{pagesFor, pageOf}
@@ -27,6 +28,7 @@ use Rattle.written.specs.Run.{wordsOfAll, words-length}
 use Rattle.written.specs.Pages.{Unused, levelPage, level-pages, page-used, page-unused, pages-joined}
 use Rattle.stored.specs.Sets.{part-before, part-behind, part-stored}
 use Rattle.stored.specs.Parts.{Parts, parts-laid}
+use Rattle.stored.specs.Replacing.{head-before}
 use Rattle.format.specs.Empty.{firstFence, fenceAlone, emptySlots, row-above, row-short, row-one-page}
 
 -- The words of a page as far as slots stand in it: their count, then theirs.
@@ -62,16 +64,16 @@ stored-front w a n vs h b u =
 stored-rest : (w : List ℕ) (a : ℕ) (vs : List ℕ) (from to : ℕ) → a + length vs ≤ from → Unused w from to → Unused (sets w a vs) from to
 stored-rest w a vs from to h u = record { each = λ j l k. getD-sets-behind w a j vs 0 (omega arith) ∙ u .each j l k }
 
+front-length : (slots : List Slot) → length (pageFront slots) ≡ 1 + 3 * length slots
+unfolding pageFront
+front-length slots = omega (arith, words-length slots)
+
 -- Slots stored with their count at the start of an unused level are the level's words, where a page holds them.
 module _ (w : List ℕ) (start n : ℕ) (slots : List Slot) (one : pagesFor (length slots) ≡ 1) (some : 1 ≤ n)
     (inside : start + 64 * n ≤ length w) (unused : Unused w start (start + 64 * n)) where
   short : length slots ≤ 21
   unfolding pagesFor
   short = omega arith
-
-  front-length : length (pageFront slots) ≡ 1 + 3 * length slots
-  unfolding pageFront
-  front-length = omega (arith, words-length slots)
 
   first-of-page : pageOf slots 0 ≡ slots
   unfolding pageOf
@@ -80,8 +82,8 @@ module _ (w : List ℕ) (start n : ℕ) (slots : List Slot) (one : pagesFor (len
   first-page : take 64 (drop start (sets w start (pageFront slots))) ≡ pageWords slots
   unfolding pageWords runWords pageFront
   first-page =
-      let e : 64 - length (pageFront slots) ≡ 3 * (21 - length slots) = omega (arith, front-length, short) in
-      stored-front w start 64 (pageFront slots) (omega (arith, front-length, short)) (omega arith) (record { each = λ j l k. unused .each j l (omega arith) }) ∙
+      let e : 64 - length (pageFront slots) ≡ 3 * (21 - length slots) = omega (arith, front-length slots, short) in
+      stored-front w start 64 (pageFront slots) (omega (arith, front-length slots, short)) (omega arith) (record { each = λ j l k. unused .each j l (omega arith) }) ∙
       rw e refl
 
   pub level-front : take (64 * n) (drop start (sets w start (pageFront slots))) ≡ levelWords slots n
@@ -94,18 +96,117 @@ module _ (w : List ℕ) (start n : ℕ) (slots : List Slot) (one : pagesFor (len
           let z : start + 64 * 0 ≡ start = omega arith in
           rw (z, page-used slots 0 (omega arith), first-of-page) first-page
       each (suc p) b =
-          part-behind w start (pageFront slots) (start + 64 * suc p) 64 (omega (arith, front-length, short)) ∙
+          part-behind w start (pageFront slots) (start + 64 * suc p) 64 (omega (arith, front-length slots, short)) ∙
           slice-replicate w (start + 64 * suc p) 64 erased (omega arith) (λ j l u. unused .each j (omega arith) (omega arith)) ∙
           sym (page-unused slots (suc p) (omega arith))
 
--- The head written: nothing of the levels yet.
 module _ (g : Geometry) (fit : InRange g) where
-  format-begins : (w : List ℕ) → length w ≡ storeWords g → Formatting g (headWritten g w) 1
-  format-begins w e = ?
+  -- When the head is written, all behind it is unused.
+  fence-run : (n : ℕ) → wordsOf firstFence ++ replicate (3 * n - 3) erased ≡ runWords fenceAlone n
+  unfolding wordsOf runWords concat
+  fence-run n =
+      let e : 3 * n - 3 ≡ 3 * (n - 1) = omega arith in
+      rw e refl
 
+  fence-length : length (wordsOf firstFence) ≡ 3
+  unfolding wordsOf
+  fence-length = refl
+
+  directory-length : length (directory g 0 (emptySlots g)) ≡ 9
+  unfolding directory
+  directory-length = refl
+
+  head-some : 1 ≤ headRoom g
+  unfolding headRoom
+  head-some = omega (arith, fit .head-least)
+
+  head-inside : 9 + 3 * headRoom g ≤ storeWords g
+  unfolding storeWords
+  head-inside = head-before g 4
+
+  pub format-begins : (w : List ℕ) → length w ≡ storeWords g → Formatting g (headWritten g w) 1
+  unfolding headWritten
+  format-begins w e =
+      record {
+        whole = length-sets opened 9 (wordsOf firstFence) ∙ opened-length;
+        front = part-before opened 9 (wordsOf firstFence) 0 9 (omega arith) ∙ directory-stands;
+        head = rw (row-above g fit 0 (omega (arith, fit .levels-least)))
+        (stored-front opened 9 (3 * headRoom g) (wordsOf firstFence) (omega (arith, fence-length, head-some)) (omega (arith, opened-length, head-inside))
+        (record { each = λ j l u. opened-unused .each j l (omega (arith, head-inside)) }) ∙
+        rw fence-length (fence-run (headRoom g)));
+        levels = λ j l b. absurd (omega arith);
+        rest = stored-rest opened 9 (wordsOf firstFence) (levelStart g 1) (storeWords g) (omega (arith, fence-length, head-some, head-before g 1))
+        (record { each = λ j l u. opened-unused .each j (omega (arith, head-before g 1)) u });
+      }
+    where
+      nothing : List ℕ
+      nothing = replicate (length w - 0) erased
+
+      nothing-length : length nothing ≡ length w
+      nothing-length = length-replicate (length w - 0) erased ∙ omega arith
+
+      bare : List ℕ
+      bare = sets w 0 nothing
+
+      opened : List ℕ
+      opened = sets bare 0 (directory g 0 (emptySlots g))
+
+      opened-length : length opened ≡ storeWords g
+      opened-length = length-sets bare 0 (directory g 0 (emptySlots g)) ∙ length-sets w 0 nothing ∙ e
+
+      directory-stands : take 9 opened ≡ directory g 0 (emptySlots g)
+      directory-stands = rw directory-length at (part-stored bare 0 (directory g 0 (emptySlots g)) (omega (arith, directory-length, length-sets w 0 nothing, e, head-inside)))
+
+      bare-unused : Unused bare 0 (storeWords g)
+      bare-unused = record { each = λ j l u. replicate-slice bare 0 (length nothing) erased j all-erased l (omega (arith, nothing-length)) }
+        where
+          all-erased : take (length nothing) bare ≡ replicate (length nothing) erased
+          all-erased =
+              part-stored w 0 nothing (omega (arith, nothing-length)) ∙ ap (λ (n : ℕ). replicate n erased) (sym (length-replicate (length w - 0) erased))
+
+      opened-unused : Unused opened 9 (storeWords g)
+      opened-unused =
+          stored-rest bare 0 (directory g 0 (emptySlots g)) 9 (storeWords g) (omega (arith, directory-length)) (record { each = λ j l u. bare-unused .each j (omega arith) u })
+
+  -- A level's first page written, the level is as it stays.
   pub format-goes-on : (w : List ℕ) (i : ℕ) → 1 ≤ i → i < g .levels → Formatting g w i → Formatting g (firstPageWritten g i w) (i + 1)
-  format-goes-on w i l h f = ?
+  unfolding firstPageWritten
+  format-goes-on w i l h f =
+      record {
+        whole = length-sets w start front ∙ f .whole;
+        front = part-before w start front 0 9 (omega (arith, head-before g i)) ∙ f .front;
+        head = part-before w start front 9 (3 * headRoom g) (omega (arith, head-before g i)) ∙ f .head;
+        levels = λ j k b. chosen j k b (eqb j i) refl;
+        rest = stored-rest w start front (levelStart g (i + 1)) (storeWords g) (omega (arith, next, some, front-length row, row-short g fit i h))
+        (record { each = λ j k b. f .rest .each j (omega (arith, next)) b });
+      }
+    where
+      row : List Slot
+      row = getD (emptySlots g) i []
 
+      start : ℕ
+      start = levelStart g i
+
+      front : List ℕ
+      front = pageFront row
+
+      next : levelStart g (i + 1) ≡ start + 64 * room g i
+      next = rw (add-one i) (level-after g i)
+
+      some : 1 ≤ room g i
+      some = room-least g fit i l h
+
+      chosen : (j : ℕ) → 1 ≤ j → j < i + 1 → (b : Bool) → eqb j i ≡ b →
+          take (64 * room g j) (drop (levelStart g j) (sets w start front)) ≡ levelWords (getD (emptySlots g) j []) (room g j)
+      chosen j k b true t =
+          let inside : start + 64 * room g i ≤ storeWords g = omega (arith, level-after g i, level-inside g i (omega (arith, fit .levels-most))) in
+          rw (eqb-true j i t)
+          (level-front w start (room g i) row (row-one-page g fit i h) some (omega (arith, f .whole)) (record { each = λ n k u. f .rest .each n k (omega arith) }))
+      chosen j k b false t =
+          let d : j ≢ i = eqb-false j i t in
+          part-before w start front (levelStart g j) (64 * room g j) (level-before g j i (omega arith)) ∙ f .levels j k (omega arith)
+
+  -- All levels written, the words are the store of the empty set.
   pub format-ends : (w : List ℕ) (i : ℕ) → g .levels ≤ i → Formatting g w i → w ≡ emptyStore g
   unfolding emptyStore writing formatted emptySlots
   format-ends w i h f =
