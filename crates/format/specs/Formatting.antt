@@ -7,7 +7,7 @@ use mathlib.Core.Path.{_≡_, refl, sym, ap, _∙_}
 use mathlib.Core.Logic.{_≢_}
 use mathlib.Core.Bool.{Bool, true, false}
 use mathlib.Core.List.{List, [], _∷_, _++_}
-use lib.ListN.{length, getD, take, drop, replicate, length-replicate}
+use lib.ListN.{length, getD, take, drop, set, replicate, length-replicate}
 use lib.Seq.{sets, length-sets, drop-drop, take-add, take-all}
 use lib.Dec.{eqb}
 use borrow.Author.Tests.{eqb-true, eqb-false}
@@ -15,9 +15,11 @@ use Rattle.laws.specs.Lists.{concat}
 use Rattle.laws.specs.Flat.{slice-replicate, replicate-slice}
 use Rattle.laws.specs.Sets.{getD-sets-behind}
 use Rattle.geometry.specs.declared.Geometry.{Geometry}
+use Rattle.geometry.specs.declared.Plan.{Plan}
 use Rattle.geometry.specs.Geometry.{InRange, room}
 use Rattle.geometry.specs.Places.{erased, headStart, headRoom, levelStart, storeWords}
 use Rattle.geometry.specs.Bounds.{room-least}
+use Rattle.geometry.specs.Lent.{Lent, starts-at, page-at}
 use Rattle.geometry.specs.Apart.{level-after, level-inside, level-before}
 use Rattle.slot.specs.declared.Slot.{Slot}
 use Rattle.slot.specs.Slot.{wordsOf}
@@ -29,7 +31,7 @@ use Rattle.written.specs.Pages.{Unused, levelPage, level-pages, page-used, page
 use Rattle.stored.specs.Sets.{part-before, part-behind, part-stored}
 use Rattle.stored.specs.Parts.{Parts, parts-laid}
 use Rattle.stored.specs.Replacing.{head-before}
-use Rattle.format.specs.Empty.{firstFence, fenceAlone, emptySlots, row-above, row-short, row-one-page}
+use Rattle.format.specs.Empty.{firstFence, fenceAlone, emptySlots, row-above, row-bottom, row-short, row-one-page}
 
 -- The words of a page as far as slots stand in it: their count, then theirs.
 unfoldable pub pageFront : List Slot → List ℕ
@@ -42,8 +44,27 @@ headWritten g w = sets (sets (sets w 0 (replicate (length w - 0) erased)) 0 (dir
 unfoldable pub firstPageWritten : Geometry → ℕ → List ℕ → List ℕ
 firstPageWritten g i w = sets w (levelStart g i) (pageFront (getD (emptySlots g) i []))
 
+-- Where the first page of level i is written, and that what the code writes there is it.
+module _ (g : Geometry) (plan : Plan) (w : List ℕ) (lends : Lent g plan w) (i : ℕ) (some : 1 ≤ i) (there : i < g .levels) where
+  start-at : getD (plan .starts) i 0 ≡ levelStart g i
+  start-at = starts-at g plan w lends i some (omega (arith, lends .in-range .levels-most))
+
+  pub page-inside : getD (plan .starts) i 0 + 64 ≤ length w
+  page-inside =
+      let page = page-at g plan w lends i 0 some there (room-least g (lends .in-range) i some there) in
+      omega (arith, page .1)
+
+  pub page-above : suc i < g .levels → sets (set w (getD (plan .starts) i 0) 1) (getD (plan .starts) i 0 + 1) (wordsOf firstFence) ≡ firstPageWritten g i w
+  unfolding firstPageWritten pageFront wordsOf concat
+  page-above h = rw (row-above g (lends .in-range) i (omega arith), start-at, add-one (levelStart g i))
+
+  pub page-bottom : g .levels ≤ suc i → set w (getD (plan .starts) i 0) 0 ≡ firstPageWritten g i w
+  unfolding firstPageWritten pageFront concat
+  page-bottom h = rw (row-bottom g (lends .in-range) i (omega arith), start-at)
+
 -- The words before the first page of level i is written: all in front is as it stays, and from there on all are unused.
 pub record Formatting (g : Geometry) (w : List ℕ) (i : ℕ) : Type 0 where
+  pub some : 1 ≤ i
   pub whole : length w ≡ storeWords g
   pub front : take 9 w ≡ directory g 0 (emptySlots g)
   pub head : take (3 * headRoom g) (drop headStart w) ≡ runWords (getD (emptySlots g) 0 []) (headRoom g)
@@ -128,15 +149,16 @@ module _ (g : Geometry) (fit : InRange g) where
   unfolding headWritten
   format-begins w e =
       record {
+        some = omega arith;
         whole = length-sets opened 9 (wordsOf firstFence) ∙ opened-length;
         front = part-before opened 9 (wordsOf firstFence) 0 9 (omega arith) ∙ directory-stands;
         head = rw (row-above g fit 0 (omega (arith, fit .levels-least)))
-        (stored-front opened 9 (3 * headRoom g) (wordsOf firstFence) (omega (arith, fence-length, head-some)) (omega (arith, opened-length, head-inside))
-        (record { each = λ j l u. opened-unused .each j l (omega (arith, head-inside)) }) ∙
-        rw fence-length (fence-run (headRoom g)));
+            (stored-front opened 9 (3 * headRoom g) (wordsOf firstFence) (omega (arith, fence-length, head-some)) (omega (arith, opened-length, head-inside))
+            (record { each = λ j l u. opened-unused .each j l (omega (arith, head-inside)) }) ∙
+            rw fence-length (fence-run (headRoom g)));
         levels = λ j l b. absurd (omega arith);
         rest = stored-rest opened 9 (wordsOf firstFence) (levelStart g 1) (storeWords g) (omega (arith, fence-length, head-some, head-before g 1))
-        (record { each = λ j l u. opened-unused .each j (omega (arith, head-before g 1)) u });
+            (record { each = λ j l u. opened-unused .each j (omega (arith, head-before g 1)) u });
       }
     where
       nothing : List ℕ
@@ -169,16 +191,17 @@ module _ (g : Geometry) (fit : InRange g) where
           stored-rest bare 0 (directory g 0 (emptySlots g)) 9 (storeWords g) (omega (arith, directory-length)) (record { each = λ j l u. bare-unused .each j (omega arith) u })
 
   -- A level's first page written, the level is as it stays.
-  pub format-goes-on : (w : List ℕ) (i : ℕ) → 1 ≤ i → i < g .levels → Formatting g w i → Formatting g (firstPageWritten g i w) (i + 1)
+  pub format-goes-on : (w : List ℕ) (i : ℕ) → i < g .levels → Formatting g w i → Formatting g (firstPageWritten g i w) (i + 1)
   unfolding firstPageWritten
-  format-goes-on w i l h f =
+  format-goes-on w i h f =
       record {
+        some = omega arith;
         whole = length-sets w start front ∙ f .whole;
         front = part-before w start front 0 9 (omega (arith, head-before g i)) ∙ f .front;
         head = part-before w start front 9 (3 * headRoom g) (omega (arith, head-before g i)) ∙ f .head;
         levels = λ j k b. chosen j k b (eqb j i) refl;
-        rest = stored-rest w start front (levelStart g (i + 1)) (storeWords g) (omega (arith, next, some, front-length row, row-short g fit i h))
-        (record { each = λ j k b. f .rest .each j (omega (arith, next)) b });
+        rest = stored-rest w start front (levelStart g (i + 1)) (storeWords g) (omega (arith, next, space, front-length row, row-short g fit i h))
+            (record { each = λ j k b. f .rest .each j (omega (arith, next)) b });
       }
     where
       row : List Slot
@@ -193,15 +216,15 @@ module _ (g : Geometry) (fit : InRange g) where
       next : levelStart g (i + 1) ≡ start + 64 * room g i
       next = rw (add-one i) (level-after g i)
 
-      some : 1 ≤ room g i
-      some = room-least g fit i l h
+      space : 1 ≤ room g i
+      space = room-least g fit i (f .some) h
 
       chosen : (j : ℕ) → 1 ≤ j → j < i + 1 → (b : Bool) → eqb j i ≡ b →
           take (64 * room g j) (drop (levelStart g j) (sets w start front)) ≡ levelWords (getD (emptySlots g) j []) (room g j)
       chosen j k b true t =
           let inside : start + 64 * room g i ≤ storeWords g = omega (arith, level-after g i, level-inside g i (omega (arith, fit .levels-most))) in
           rw (eqb-true j i t)
-          (level-front w start (room g i) row (row-one-page g fit i h) some (omega (arith, f .whole)) (record { each = λ n k u. f .rest .each n k (omega arith) }))
+          (level-front w start (room g i) row (row-one-page g fit i h) space (omega (arith, f .whole)) (record { each = λ n k u. f .rest .each n k (omega arith) }))
       chosen j k b false t =
           let d : j ≢ i = eqb-false j i t in
           part-before w start front (levelStart g j) (64 * room g j) (level-before g j i (omega arith)) ∙ f .levels j k (omega arith)

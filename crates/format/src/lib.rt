@@ -8,7 +8,7 @@ ghost use Rattle.geometry.specs.Lent.{Lent};
 ghost use Rattle.slot.specs.Slot.{wordsOf};
 ghost use Rattle.rules.specs.Store.{pageCount, directory, emptyStore};
 ghost use Rattle.format.specs.Empty.{firstFence, emptySlots};
-ghost use Rattle.format.specs.Formatting.{firstPageWritten};
+ghost use Rattle.format.specs.Formatting.{headWritten, firstPageWritten};
 use geometry::Geometry;
 use geometry::Plan;
 use slot::Kind;
@@ -20,15 +20,24 @@ pub fn format_store(store: &mut [u32], g: Geometry, plan: Plan)
     requires { ⌜ Lent g plan (now store) ⌝ }
     ensures { λ _. ⌜ now (store .exit) ≡ emptyStore g ⌝ }
 {
-    let end = store.len();
-    words::erase(store, 0, end);
-    write_directory(store, g);
-    write_fence(store, geometry::HEAD_START);
+    write_head(store, g);
     let mut level = 1;
     while level < g.levels {
         write_first_page(store, g, plan, level);
         level += 1;
     }
+}
+
+// Erases all words, and writes the directory and the head's fence.
+fn write_head(store: &mut [u32], g: Geometry)
+    requires { ⌜ InRange g ⌝ }
+    requires { ⌜ 12 ≤ length (now store) ⌝ }
+    ensures { λ _. ⌜ now (store .exit) ≡ headWritten g (now (store .entry)) ⌝ }
+{
+    let end = store.len();
+    words::erase(store, 0, end);
+    write_directory(store, g);
+    write_fence(store, geometry::HEAD_START);
 }
 
 // Writes the nine words before the head's slots.

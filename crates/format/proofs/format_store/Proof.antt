@@ -1,59 +1,42 @@
+use Prim.Native.Nat.{_-_}
+use mathlib.Core.Path.{sym, _∙_}
+use denote.Ref.{now}
+use Rattle.geometry.specs.Lent.{lent, head-lent, head-least}
+use Rattle.format.specs.Formatting.{Formatting, format-begins, format-goes-on, format-ends}
 use borrow.Author.Needs.{needs}
 use native.Mathlib.Omega.{arith}
 use Rattle.format.proofs.format_store.Statement.{statement}
 use Rattle.format.proofs.format_store.Tie as tie
-use Rattle.format.proofs.format_store.Reads as reads
-use Rattle.format.proofs.format_store.Lts as lts
-use Rattle.format.proofs.write_directory.Reads as write-directory-reads
-use Rattle.format.proofs.write_fence.Reads as write-fence-reads
-use Rattle.format.proofs.write_first_page.Reads as write-first-page-reads
-use Rattle.words.proofs.erase.Reads as erase-reads
 
 abbrev Inv-loop : tie.InvT-loop
-Inv-loop store₀ g plan end level₀ store level = ?
+Inv-loop store₀ g plan level₀ store level = Formatting g store level
 
 abbrev μ-loop : tie.MeasureT-loop
-μ-loop store₀ g plan end level₀ store level = ?
+μ-loop store₀ g plan level₀ store level = g .levels - level
 
--- src/lib.rt:24:5
-erase-requires : tie.Need-erase-requires Inv-loop μ-loop
-erase-requires c κs = search needs
+write-head-requires : tie.Need-write-head-requires Inv-loop μ-loop
+write-head-requires c κs = (c .before .before .pre .in-range, omega (arith, head-lent (c .before .before .args .g) (c .before .before .args .plan) (now (c .before .before .args .store)) (c .before .before .pre), head-least (c .before .before .args .g) (c .before .before .args .plan) (now (c .before .before .args .store)) (c .before .before .pre)))
 
--- src/lib.rt:25:5
-write-directory-requires : tie.Need-write-directory-requires Inv-loop μ-loop
-write-directory-requires c κs = search needs
-
--- src/lib.rt:26:5
-write-fence-requires : tie.Need-write-fence-requires Inv-loop μ-loop
-write-fence-requires c κs = search needs
-
--- src/lib.rt:28:5
 loop-holds : tie.Need-loop-holds Inv-loop μ-loop
-loop-holds c = search needs
+loop-holds c = rw (c .before .before .write-head .ensures) (format-begins (c .before .before .before .before .before .args .g) (c .before .before .before .before .before .pre .in-range) (now (c .before .before .before .before .before .args .store)) (c .before .before .before .before .before .pre .exact))
 
--- src/lib.rt:29:9
 write-first-page-requires : tie.Need-write-first-page-requires Inv-loop μ-loop
-write-first-page-requires c κs = search needs
+write-first-page-requires c κs = (lent (c .before .before .before .before .before .before .before .before .before .args .g) (c .before .before .before .before .before .before .before .before .before .args .plan) (c .before .before .before .loop .store) (c .before .before .before .before .before .before .before .before .before .pre .in-range) (c .before .before .before .before .before .before .before .before .before .pre .planned) (c .before .before .before .loop .inv .whole), (c .before .before .before .loop .inv .some, c .before .if1 .taken))
 
--- src/lib.rt:30:9
 add-level : tie.Need-add-level Inv-loop μ-loop
 add-level c = search needs
 
--- src/lib.rt:28:5
 loop-less : tie.Need-loop-less Inv-loop μ-loop
 loop-less c = search needs
 
--- src/lib.rt:28:5
 loop-again : tie.Need-loop-again Inv-loop μ-loop
-loop-again c = search needs
+loop-again c = rw (c .before .before .write-first-page .ensures) (format-goes-on (c .before .before .before .before .before .before .before .before .before .before .before .before .args .g) (c .before .before .before .before .before .before .before .before .before .before .before .before .pre .in-range) (c .before .before .before .before .before .before .loop .store) (c .before .before .before .before .before .before .loop .level) (c .before .before .before .before .if1 .taken) (c .before .before .before .before .before .before .loop .inv))
 
--- src/lib.rt:19:1
 same-length : tie.Need-same-length Inv-loop μ-loop
-same-length c = search needs
+same-length c = (c .before .before .loop .inv .whole) ∙ sym (c .before .before .before .before .before .before .before .before .pre .exact)
 
--- src/lib.rt:19:1
 returns : tie.Need-returns Inv-loop μ-loop
-returns c = search needs
+returns c = format-ends (c .before .before .before .before .before .before .before .before .args .g) (c .before .before .before .before .before .before .before .before .pre .in-range) (c .before .before .loop .store) (c .before .before .loop .level) (omega arith) (c .before .before .loop .inv)
 
 pub format-store-spec : {M : Type 1} → statement M
 format-store-spec =
@@ -61,9 +44,7 @@ format-store-spec =
     (tie.spec
     Inv-loop
     μ-loop
-    erase-requires
-    write-directory-requires
-    write-fence-requires
+    write-head-requires
     loop-holds
     write-first-page-requires
     add-level
