@@ -1,13 +1,14 @@
 -- The slots of the empty tree: in each level above the bottom the fence to page 0 alone, in the bottom none. Assumes nothing.
-use Prim.Native.Nat.{ℕ, zero, suc, _+_, _-_, _≤_, _<_, max}
+use Prim.Native.Nat.{ℕ, zero, suc, _+_, _-_, _≤_, _<_}
 use native.Mathlib.Omega.{arith}
-use mathlib.Core.Path.{_≡_, refl, sym, ap, _∙_}
+use mathlib.Core.Path.{_≡_, refl, ap, _∙_}
+use mathlib.Core.Logic.{_≢_}
 use mathlib.Core.Bool.{Bool, true, false}
 use mathlib.Core.List.{List, [], _∷_, _++_}
 use lib.ListN.{length, getD, replicate, length-replicate, getD-replicate, List·getD-append}
 use lib.Seq.{getD-at}
-use lib.Dec.{ltb}
-use borrow.Author.Tests.{ltb-true, ltb-false}
+use lib.Dec.{eqb}
+use borrow.Author.Tests.{eqb-true, eqb-false, ne-eqb}
 use Rattle.laws.specs.Lists.{span}
 use Rattle.geometry.specs.declared.Geometry.{Geometry}
 use Rattle.geometry.specs.Geometry.{InRange, bottom}
@@ -22,6 +23,11 @@ firstFence = external least 0
 
 abbrev pub fenceAlone : List Slot
 fenceAlone = firstFence ∷ []
+
+-- What a level without entries holds, over one page: the fence alone, and nothing in the bottom.
+abbrev pub emptyRow : Bool → List Slot
+emptyRow true = []
+emptyRow false = fenceAlone
 
 unfoldable pub emptySlots : Geometry → List (List Slot)
 emptySlots g = slotsOf ((formatted g) .tree)
@@ -46,21 +52,30 @@ module _ (g : Geometry) (fit : InRange g) where
       let b : suc (bottom g - 1) ≡ bottom g = omega (arith, fit .levels-least) in
       ap (λ (n : ℕ). slotsOf (replicate n [])) l ∙ empty-rows (bottom g - 1) ∙ ap (λ (n : ℕ). replicate n fenceAlone ++ [] ∷ []) b
 
-  -- The row of a level above the bottom, and of the bottom; each takes one page.
-  pub row-above : (i : ℕ) → i < bottom g → getD (emptySlots g) i [] ≡ fenceAlone
-  row-above i h =
-      rw (empty-slots, List·getD-append (replicate (bottom g) fenceAlone) ([] ∷ []) [] i (rw (length-replicate (bottom g) fenceAlone) h))
-      (getD-replicate (bottom g) i fenceAlone [] h)
+  -- Each level's row; it takes one page.
+  pub row-at : (i : ℕ) → i < g .levels → getD (emptySlots g) i [] ≡ emptyRow (eqb (i + 1) (g .levels))
+  row-at i h = chosen (eqb (i + 1) (g .levels)) refl
+    where
+      chosen : (b : Bool) → eqb (i + 1) (g .levels) ≡ b → getD (emptySlots g) i [] ≡ emptyRow b
+      chosen true t =
+          let e : i ≡ bottom g = omega (arith, eqb-true (i + 1) (g .levels) t) in
+          rw (e, empty-slots) (getD-at (replicate (bottom g) fenceAlone) [] [] [] (bottom g) (length-replicate (bottom g) fenceAlone))
+      chosen false t =
+          let d : i + 1 ≢ g .levels = eqb-false (i + 1) (g .levels) t in
+          rw (empty-slots, List·getD-append (replicate (bottom g) fenceAlone) ([] ∷ []) [] i (rw (length-replicate (bottom g) fenceAlone) (omega arith)))
+          (getD-replicate (bottom g) i fenceAlone [] (omega arith))
 
-  pub row-bottom : (i : ℕ) → i ≡ bottom g → getD (emptySlots g) i [] ≡ []
-  row-bottom i e = rw (e, empty-slots) (getD-at (replicate (bottom g) fenceAlone) [] [] [] (bottom g) (length-replicate (bottom g) fenceAlone))
+  pub row-head : getD (emptySlots g) 0 [] ≡ fenceAlone
+  row-head =
+      let d : 1 ≢ g .levels = λ e. omega (arith, fit .levels-least) in
+      row-at 0 (omega (arith, fit .levels-least)) ∙ rw (ne-eqb 1 (g .levels) d)
 
   pub row-short : (i : ℕ) → i < g .levels → length (getD (emptySlots g) i []) ≤ 1
-  row-short i h = chosen (ltb i (bottom g)) refl
+  row-short i h = rw (row-at i h) (short (eqb (i + 1) (g .levels)))
     where
-      chosen : (b : Bool) → ltb i (bottom g) ≡ b → length (getD (emptySlots g) i []) ≤ 1
-      chosen true t = rw (row-above i (ltb-true i (bottom g) t)) (omega arith)
-      chosen false t = rw (row-bottom i (omega (arith, ltb-false i (bottom g) t))) (omega arith)
+      short : (b : Bool) → length (emptyRow b) ≤ 1
+      short true = omega arith
+      short false = omega arith
 
   pub row-one-page : (i : ℕ) → i < g .levels → pagesFor (length (getD (emptySlots g) i [])) ≡ 1
   unfolding pagesFor

@@ -1,5 +1,5 @@
 // The store of the empty set.
-ghost use Prim.Native.Nat.{_+_, _≤_, _<_};
+ghost use Prim.Native.Nat.{_+_, _≤_};
 ghost use mathlib.Core.Path.{_≡_};
 ghost use lib.ListN.{length};
 ghost use lib.Seq.{sets};
@@ -7,8 +7,8 @@ ghost use Rattle.geometry.specs.Geometry.{InRange};
 ghost use Rattle.geometry.specs.Lent.{Lent};
 ghost use Rattle.slot.specs.Slot.{wordsOf};
 ghost use Rattle.rules.specs.Store.{pageCount, directory, emptyStore};
-ghost use Rattle.format.specs.Empty.{firstFence, emptySlots};
-ghost use Rattle.format.specs.Formatting.{headWritten, firstPageWritten};
+ghost use Rattle.format.specs.Empty.{firstFence, emptyRow, emptySlots};
+ghost use Rattle.format.specs.Formatting.{headWritten, pageFront};
 use geometry::Geometry;
 use geometry::Plan;
 use slot::Kind;
@@ -23,7 +23,8 @@ pub fn format_store(store: &mut [u32], g: Geometry, plan: Plan)
     write_head(store, g);
     let mut level = 1;
     while level < g.levels {
-        write_first_page(store, g, plan, level);
+        let start = plan.starts[level as usize] as usize;
+        write_first_page(store, start, level + 1 == g.levels);
         level += 1;
     }
 }
@@ -65,18 +66,16 @@ fn page_count(g: Geometry, level: u32) -> u32
     if level < g.levels { 1 } else { 0 }
 }
 
-// Writes a level's first page in its erased room: the fence alone, and nothing in the bottom.
-fn write_first_page(store: &mut [u32], g: Geometry, plan: Plan, level: u32)
-    requires { ⌜ Lent g plan (now store) ⌝ }
-    requires { ⌜ (1 ≤ level) × (level < g .levels) ⌝ }
-    ensures { λ _. ⌜ now (store .exit) ≡ firstPageWritten g level (now (store .entry)) ⌝ }
+// Writes the first page of a level that starts at a place: the fence alone, and nothing in the bottom.
+fn write_first_page(store: &mut [u32], start: usize, bottom: bool)
+    requires { ⌜ start + 64 ≤ length (now store) ⌝ }
+    ensures { λ _. ⌜ now (store .exit) ≡ sets (now (store .entry)) start (pageFront (emptyRow bottom)) ⌝ }
 {
-    let start = plan.starts[level as usize] as usize;
-    if level + 1 < g.levels {
+    if bottom {
+        store[start] = 0;
+    } else {
         store[start] = 1;
         write_fence(store, start + geometry::FIRST_SLOT);
-    } else {
-        store[start] = 0;
     }
 }
 
@@ -91,8 +90,9 @@ fn write_fence(store: &mut [u32], place: usize)
 fn first_fence() -> Slot
     ensures { λ r. ⌜ r ≡ firstFence ⌝ }
 {
+    let pair = slot::least_pair();
     Slot {
-        pair: slot::least_pair(),
+        pair,
         kind: Kind::External,
         page: Pid(0),
     }

@@ -1,4 +1,4 @@
--- `page_count` is the page count of a level of the empty tree: one page, from the level's short row, or none. Assumes nothing.
+-- `page_count` is the page count of a level of the empty tree: one page where the level exists. Assumes nothing.
 use mathlib.Core.Path.{sym, _∙_}
 use native.Mathlib.Omega.{arith}
 use Rattle.stored.specs.Parts.{page-count, no-page-count}

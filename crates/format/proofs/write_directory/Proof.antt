@@ -1,5 +1,6 @@
+-- `write_directory` stores the nine words of the empty tree's directory, its page counts from what `page_count` ensures. Assumes nothing.
 use Rattle.rules.specs.Store.{directory}
-use Rattle.format.specs.Empty.{row-above}
+use Rattle.format.specs.Empty.{row-head}
 use lib.ListN.{length-set}
 use native.Mathlib.Omega.{arith}
 use borrow.Author.Needs.{needs}
@@ -71,7 +72,7 @@ returns c =
       ← (c .before .before .page-count .ensures),
       ← (c .before .page-count2 .ensures),
       ← (c .page-count3 .ensures),
-      row-above g (c .before .before .before .before .pre .0) 0 (omega (arith, c .before .before .before .before .pre .0 .levels-least)),
+      row-head g (c .before .before .before .before .pre .0),
     )
 
 pub write-directory-spec : {M : Type 1} → statement M

@@ -1,3 +1,4 @@
+-- `write_fence` stores the first fence's three words, from what `first_fence` and `write_slot` ensure. Assumes nothing.
 use mathlib.Core.Path.{_∙_}
 use Rattle.rules.specs.Level.{external}
 use native.Mathlib.Omega.{arith}

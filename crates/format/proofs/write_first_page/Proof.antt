@@ -1,71 +1,58 @@
-use mathlib.Core.Path.{ap}
-use lib.ListN.{length}
+-- `write_first_page` stores the first words of an empty level: its slot count, and above the bottom the fence. Assumes nothing.
+use lib.ListN.{length, length-set}
 use lib.Seq.{length-sets}
-use lib.ListN.{length-set}
-use mathlib.Core.Path.{_∙_}
-use denote.Ref.{now}
-use Rattle.format.specs.Formatting.{page-inside, page-above, page-bottom}
+use mathlib.Core.Path.{ap, _∙_}
+use native.Mathlib.Numerals.{add-one}
+use Rattle.laws.specs.Lists.{concat}
+use Rattle.slot.specs.Slot.{wordsOf}
+use Rattle.format.specs.Formatting.{pageFront}
 use native.Mathlib.Omega.{arith}
 use borrow.Author.Needs.{needs}
 use Rattle.format.proofs.write_first_page.Statement.{statement}
 use Rattle.format.proofs.write_first_page.Tie as tie
 
-mul-start : tie.Need-mul-start
-mul-start c = search needs
-
-element-copy-out-start : tie.Need-element-copy-out-start
-element-copy-out-start c = search needs
-
-cast-start : tie.Need-cast-start
-cast-start c = search needs
-
-add-if1 : tie.Need-add-if1
-add-if1 c = search needs
-
 mul-store : tie.Need-mul-store
-mul-store c = omega (arith, page-inside (c .before .before .before .before .args .g) (c .before .before .before .before .args .t3) (now (c .before .before .before .before .args .store)) (c .before .before .before .before .pre .0) (c .before .before .before .before .args .level) (c .before .before .before .before .pre .1 .0) (c .before .before .before .before .pre .1 .1))
+mul-store c = search needs
 
 slice-write-store : tie.Need-slice-write-store
-slice-write-store c = omega (arith, page-inside (c .before .before .before .before .args .g) (c .before .before .before .before .args .t3) (now (c .before .before .before .before .args .store)) (c .before .before .before .before .pre .0) (c .before .before .before .before .args .level) (c .before .before .before .before .pre .1 .0) (c .before .before .before .before .pre .1 .1))
-
-add-write-fence : tie.Need-add-write-fence
-add-write-fence c = omega (arith, page-inside (c .before .before .before .before .before .args .g) (c .before .before .before .before .before .args .t3) (now (c .before .before .before .before .before .args .store)) (c .before .before .before .before .before .pre .0) (c .before .before .before .before .before .args .level) (c .before .before .before .before .before .pre .1 .0) (c .before .before .before .before .before .pre .1 .1))
-
-write-fence-requires : tie.Need-write-fence-requires
-write-fence-requires c κs = simp length-set (omega (arith, page-inside (c .before .before .before .before .before .args .g) (c .before .before .before .before .before .args .t3) (now (c .before .before .before .before .before .args .store)) (c .before .before .before .before .before .pre .0) (c .before .before .before .before .before .args .level) (c .before .before .before .before .before .pre .1 .0) (c .before .before .before .before .before .pre .1 .1)))
+slice-write-store c = search needs
 
 mul-store-2 : tie.Need-mul-store-2
-mul-store-2 c = omega (arith, page-inside (c .before .before .before .before .args .g) (c .before .before .before .before .args .t3) (now (c .before .before .before .before .args .store)) (c .before .before .before .before .pre .0) (c .before .before .before .before .args .level) (c .before .before .before .before .pre .1 .0) (c .before .before .before .before .pre .1 .1))
+mul-store-2 c = search needs
 
 slice-write-store-2 : tie.Need-slice-write-store-2
-slice-write-store-2 c = omega (arith, page-inside (c .before .before .before .before .args .g) (c .before .before .before .before .args .t3) (now (c .before .before .before .before .args .store)) (c .before .before .before .before .pre .0) (c .before .before .before .before .args .level) (c .before .before .before .before .pre .1 .0) (c .before .before .before .before .pre .1 .1))
+slice-write-store-2 c = search needs
+
+add-write-fence : tie.Need-add-write-fence
+add-write-fence c = search needs
+
+write-fence-requires : tie.Need-write-fence-requires
+write-fence-requires c κs = simp length-set (omega arith)
 
 same-length : tie.Need-same-length
-same-length c = ap length (c .before .before .write-fence .ensures) ∙ simp (length-sets, length-set)
+same-length c = search needs
 
 returns : tie.Need-returns
-returns c = (c .before .before .write-fence .ensures) ∙ page-above (c .before .before .before .before .before .before .before .before .args .g) (c .before .before .before .before .before .before .before .before .args .t3) (now (c .before .before .before .before .before .before .before .before .args .store)) (c .before .before .before .before .before .before .before .before .pre .0) (c .before .before .before .before .before .before .before .before .args .level) (c .before .before .before .before .before .before .before .before .pre .1 .0) (c .before .before .before .before .before .before .before .before .pre .1 .1) (omega arith)
+unfolding pageFront concat
+returns c = rw (c .if1 .taken)
 
 same-length-2 : tie.Need-same-length-2
-same-length-2 c = search needs
+same-length-2 c = ap length (c .before .before .write-fence .ensures) ∙ simp (length-sets, length-set)
 
 returns-2 : tie.Need-returns-2
-returns-2 c = page-bottom (c .before .before .before .before .args .g) (c .before .before .before .before .args .t3) (now (c .before .before .before .before .args .store)) (c .before .before .before .before .pre .0) (c .before .before .before .before .args .level) (c .before .before .before .before .pre .1 .0) (c .before .before .before .before .pre .1 .1) (omega arith)
+unfolding pageFront concat wordsOf
+returns-2 c = rw (c .before .before .before .before .if1 .left, c .before .before .write-fence .ensures, add-one)
 
 pub write-first-page-spec : {M : Type 1} → statement M
 write-first-page-spec =
     tie.close
     (tie.spec
-    mul-start
-    element-copy-out-start
-    cast-start
-    add-if1
     mul-store
     slice-write-store
-    add-write-fence
-    write-fence-requires
     mul-store-2
     slice-write-store-2
+    add-write-fence
+    write-fence-requires
     same-length
     returns
     same-length-2

@@ -1,3 +1,4 @@
+-- `write_head` erases all words, then stores the directory and the head's fence, from what its three calls ensure. Assumes nothing.
 use Rattle.format.specs.Formatting.{headWritten}
 use borrow.Author.Needs.{needs}
 use Rattle.format.proofs.write_head.Statement.{statement}
@@ -17,7 +18,9 @@ same-length c = search needs
 
 returns : tie.Need-returns
 unfolding headWritten
-returns c = rw (c .before .before .write-fence .ensures, c .before .before .before .before .before .before .write-directory .ensures, c .before .before .before .before .before .before .before .before .before .before .erase .ensures)
+returns c =
+    let opened = c .before .before .before .before .before .before in
+    rw (c .before .before .write-fence .ensures, opened .write-directory .ensures, opened .before .before .before .before .erase .ensures)
 
 pub write-head-spec : {M : Type 1} → statement M
 write-head-spec =
