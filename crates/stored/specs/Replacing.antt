@@ -27,7 +27,7 @@ unfolding laidOut directory
 live-replaced g live ss n = refl
 
 -- The head's words end before every level's.
-head-before : (g : Geometry) (i : ℕ) → 9 + 3 * headRoom g ≤ levelStart g i
+pub head-before : (g : Geometry) (i : ℕ) → 9 + 3 * headRoom g ≤ levelStart g i
 unfolding levelStart
 head-before g i = omega arith
 
