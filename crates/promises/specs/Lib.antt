@@ -1,0 +1,4 @@
+-- The promises that need no code: what good states and their writings are to each other, and what any requests from a formatted store come to.
+--
+--   Written     a store is sound exactly if it is the writing of a good state; the walk on it finds
+pub mod Written
