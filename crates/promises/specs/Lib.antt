@@ -1,4 +1,6 @@
 -- The promises that need no code: what good states and their writings are to each other, and what any requests from a formatted store come to.
 --
 --   Written     a store is sound exactly if it is the writing of a good state; the walk on it finds
+--   Calls       any requests from a formatted store reach good states
 pub mod Written
+pub mod Calls
