@@ -2,5 +2,9 @@
 --
 --   Written     a store is sound exactly if it is the writing of a good state; the walk on it finds
 --   Calls       any requests from a formatted store reach good states
+--   Plain       a plain set of pairs, with put and drop
+--   Sets        condition 2: the pairs held are those of the plain set
 pub mod Written
 pub mod Calls
+pub mod Plain
+pub mod Sets
