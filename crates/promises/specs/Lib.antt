@@ -4,13 +4,15 @@
 --   Calls       any requests from a formatted store reach good states
 --   Plain       a plain set of pairs, with put and drop
 --   Sets        condition 2: the pairs held are those of the plain set
---   Ledger      merges against entries
+--   Entries     the index entries in the upper levels, on which merges draw
+--   Ledger      merges against accepted requests
 --   Pages       the pages that a cascade of merges writes
 --   Allowed     condition 3: the pages written in all are at most those allowed
 pub mod Written
 pub mod Calls
 pub mod Plain
 pub mod Sets
+pub mod Entries
 pub mod Ledger
 pub mod Pages
 pub mod Allowed

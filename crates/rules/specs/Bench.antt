@@ -1,7 +1,7 @@
 -- The bench table: its starred cases, its list case and the errors that look right, computed by the rules as one statement over one list
 -- of cases.
 -- Assumes nothing.
-use Prim.Native.Nat.{ℕ, zero, suc, _+_, _*_}
+use Prim.Native.Nat.{ℕ, suc, _+_, _*_}
 use mathlib.Core.Path.{_≡_, refl}
 use mathlib.Core.Bool.{Bool, true, false}
 use mathlib.Core.List.{List, [], _∷_, _++_, map}
@@ -10,7 +10,6 @@ use Rattle.laws.specs.Lists.{span, concat, passing, all, equal}
 use Rattle.geometry.specs.declared.Geometry.{Geometry}
 use Rattle.geometry.specs.Geometry.{capacity, most, total, roomOver, room}
 use Rattle.geometry.specs.Places.{roomBefore, headRoom, levelStart, pagePlace, slotPlace}
-use Rattle.slot.specs.declared.Pair.{Pair}
 use Rattle.slot.specs.declared.Slot.{Slot}
 use Rattle.slot.specs.Pair.{pair, rank, least, before, same}
 use Rattle.slot.specs.Tag.{kindNamed, kindOf, pageOf, tagOf}
