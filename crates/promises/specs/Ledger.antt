@@ -75,7 +75,7 @@ module _ (g : Geometry) (i : ℕ) where
         add-mul (once (suc i) (o .deepest)) (mergesInto (suc i) os) (capacity g i),
       )
 
--- So in n accepted requests from there level i is merged on at most n divided by cap(i) times.
+-- So in n accepted requests from a formatted store level i is merged on at most n divided by cap(i) times.
 pub merges-few : (g : Geometry) → InRange g → (i : ℕ) (rs : List Request) → RequestsFit rs →
     let os = run g (formatted g) rs in
     mergesInto (suc i) os ≤ length (accepted os) / capacity g i

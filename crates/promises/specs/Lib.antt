@@ -2,7 +2,8 @@
 --
 --   Written     a store is sound exactly if it is the writing of a good state; the walk on it finds
 --   Calls       any requests from a formatted store reach good states
---   Plain       a plain set of pairs, with put and drop
+--   Plain       a plain set of pairs
+--   Answers     put and drop on it
 --   Sets        condition 2: the pairs held are those of the plain set
 --   Entries     the index entries in the upper levels, on which merges draw
 --   Ledger      merges against accepted requests
@@ -11,6 +12,7 @@
 pub mod Written
 pub mod Calls
 pub mod Plain
+pub mod Answers
 pub mod Sets
 pub mod Entries
 pub mod Ledger

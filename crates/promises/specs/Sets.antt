@@ -14,12 +14,12 @@ use Rattle.slot.specs.declared.Pair.{Pair}
 use Rattle.slot.specs.Pair.{same, Words}
 use Rattle.rules.specs.Finding.{held}
 use Rattle.rules.specs.Merging.{State, formatted, Outcome, refused, done, put, remove}
-use Rattle.rules.specs.Listing.{insert}
 use Rattle.rules.specs.Good.{Good}
 use Rattle.rules.specs.Requests.{Request, putting, dropping, step, run, final, pairIn, RequestsFit}
 use Rattle.good.specs.Calls.{put-held, put-full, put-done, remove-missing, remove-done, put-good, remove-good, put-holds, remove-holds}
 use Rattle.good.specs.Format.{formatted-good, formatted-holds}
-use Rattle.promises.specs.Plain.{has, without, Answered, answer, answers, setAfter, Rises, insert-rises, insert-has, insert-length, without-rises, without-has, without-length}
+use Rattle.promises.specs.Plain.{has, Rises, PairsFit, insert-rises, insert-has, insert-length, insert-fits, without-rises, without-has, without-length, without-fits}
+use Rattle.promises.specs.Answers.{Answered, answer, answers, setAfter, answer-held, answer-full, answer-put, answer-missing, answer-dropped}
 
 -- A good state that holds the pairs of a set.
 pub record Holds (g : Geometry) (s : State) (set : List Pair) : Type 0 where
@@ -27,6 +27,7 @@ pub record Holds (g : Geometry) (s : State) (set : List Pair) : Type 0 where
   pub members : (p : Pair) → held p (s .tree) ≡ has p set
   pub size : s .live ≡ length set
   pub rises : Rises 0 set
+  pub fit : PairsFit set
 
 -- The reply numbers of requests one after another.
 abbrev pub replies : List Outcome → List ℕ
@@ -39,28 +40,6 @@ plainReplies rest = map (λ a. a .reply) rest
 pub record Agrees (g : Geometry) (o : Outcome) (a : Answered) : Type 0 where
   pub replies : o .reply ≡ a .reply
   pub after : Holds g (o .after) (a .after)
-
--- The plain set's answer, case by case.
-module _ (m : ℕ) (p : Pair) (set : List Pair) where
-  answer-held : has p set ≡ true → answer m (putting p) set ≡ record { reply = 2; after = set }
-  unfolding answer
-  answer-held h = rw (h, answer) refl
-
-  answer-full : has p set ≡ false → ltb (length set) m ≡ false → answer m (putting p) set ≡ record { reply = 4; after = set }
-  unfolding answer
-  answer-full h l = rw (h, l, answer) refl
-
-  answer-put : has p set ≡ false → ltb (length set) m ≡ true → answer m (putting p) set ≡ record { reply = 0; after = insert p set }
-  unfolding answer
-  answer-put h l = rw (h, l, answer) refl
-
-  answer-missing : has p set ≡ false → answer m (dropping p) set ≡ record { reply = 3; after = set }
-  unfolding answer
-  answer-missing h = rw (h, answer) refl
-
-  answer-dropped : has p set ≡ true → answer m (dropping p) set ≡ record { reply = 0; after = without p set }
-  unfolding answer
-  answer-dropped h = rw (h, answer) refl
 
 module _ (g : Geometry) (fit : InRange g) where
   -- One request.
@@ -86,6 +65,7 @@ module _ (g : Geometry) (fit : InRange g) where
                     sym (insert-has p set q);
                 size = ap (λ (o : Outcome). o .after .live) (put-done g p s e k) ∙ omega (arith, holds .size, insert-length p set h);
                 rises = insert-rises 0 p set (omega arith) (holds .rises);
+                fit = insert-fits p set w (holds .fit);
               };
             })
 
@@ -106,6 +86,7 @@ module _ (g : Geometry) (fit : InRange g) where
                     remove-holds g fit p w s (holds .good) e q ∙ ap (λ (b : Bool). b && not (same q p)) (holds .members q) ∙ sym (without-has p set q);
                 size = ap (λ (o : Outcome). o .after .live) (remove-done g p s e) ∙ omega (arith, holds .size, without-length 0 p set (holds .rises) h);
                 rises = without-rises 0 p set (holds .rises);
+                fit = without-fits p set (holds .fit);
               };
             })
 
@@ -126,8 +107,8 @@ module _ (g : Geometry) (fit : InRange g) where
 
   -- A formatted store holds the empty set.
   formatted-empty : Holds g (formatted g) []
-  unfolding has Rises formatted
-  formatted-empty = record { good = formatted-good g fit; members = formatted-holds g; size = refl; rises = tt }
+  unfolding has Rises PairsFit formatted
+  formatted-empty = record { good = formatted-good g fit; members = formatted-holds g; size = refl; rises = tt; fit = tt }
 
   -- Any requests from a formatted store.
   module _ (rs : List Request) (w : RequestsFit rs) where
