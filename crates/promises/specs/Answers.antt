@@ -1,6 +1,5 @@
 -- Put and drop on a plain set: what it answers to requests, one after another. It knows of no level, page or fence. Assumes nothing.
 use Prim.Native.Nat.{ℕ}
-use mathlib.Core.Path.{_≡_, refl}
 use mathlib.Core.Bool.{true, false}
 use mathlib.Core.List.{List, [], _∷_}
 use lib.ListN.{length}
@@ -33,25 +32,3 @@ answers most set (r ∷ rs) = let a = answer most r set in a ∷ answers most (a
 unfoldable pub setAfter : List Pair → List Answered → List Pair
 setAfter set [] = set
 setAfter set (a ∷ rest) = setAfter (a .after) rest
-
--- An answer, case by case.
-module _ (m : ℕ) (p : Pair) (set : List Pair) where
-  pub answer-held : has p set ≡ true → answer m (putting p) set ≡ record { reply = 2; after = set }
-  unfolding answer
-  answer-held h = rw (h, answer) refl
-
-  pub answer-full : has p set ≡ false → ltb (length set) m ≡ false → answer m (putting p) set ≡ record { reply = 4; after = set }
-  unfolding answer
-  answer-full h l = rw (h, l, answer) refl
-
-  pub answer-put : has p set ≡ false → ltb (length set) m ≡ true → answer m (putting p) set ≡ record { reply = 0; after = insert p set }
-  unfolding answer
-  answer-put h l = rw (h, l, answer) refl
-
-  pub answer-missing : has p set ≡ false → answer m (dropping p) set ≡ record { reply = 3; after = set }
-  unfolding answer
-  answer-missing h = rw (h, answer) refl
-
-  pub answer-dropped : has p set ≡ true → answer m (dropping p) set ≡ record { reply = 0; after = without p set }
-  unfolding answer
-  answer-dropped h = rw (h, answer) refl

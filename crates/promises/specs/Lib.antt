@@ -5,6 +5,7 @@
 --   Plain       a plain set of pairs
 --   Answers     put and drop on it
 --   Sets        condition 2: the pairs held are those of the plain set
+--   Listed      condition 2 of lists
 --   Entries     the index entries in the upper levels, on which merges draw
 --   Ledger      merges against accepted requests
 --   Pages       the pages that a cascade of merges writes
@@ -14,6 +15,7 @@ pub mod Calls
 pub mod Plain
 pub mod Answers
 pub mod Sets
+pub mod Listed
 pub mod Entries
 pub mod Ledger
 pub mod Pages

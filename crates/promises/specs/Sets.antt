@@ -14,12 +14,17 @@ use Rattle.slot.specs.declared.Pair.{Pair}
 use Rattle.slot.specs.Pair.{same, Words}
 use Rattle.rules.specs.Finding.{held}
 use Rattle.rules.specs.Merging.{State, formatted, Outcome, refused, done, put, remove}
+use Rattle.rules.specs.Store.{writing}
 use Rattle.rules.specs.Good.{Good}
 use Rattle.rules.specs.Requests.{Request, putting, dropping, step, run, final, pairIn, RequestsFit}
+use Rattle.walk.specs.declared.Walked.the-variants.{Found}
+use Rattle.walk.specs.Walk.{walked}
+use Rattle.finding.specs.Asked.{decider}
 use Rattle.good.specs.Calls.{put-held, put-full, put-done, remove-missing, remove-done, put-good, remove-good, put-holds, remove-holds}
 use Rattle.good.specs.Format.{formatted-good, formatted-holds}
+use Rattle.promises.specs.Written.{good-walks}
 use Rattle.promises.specs.Plain.{has, Rises, PairsFit, insert-rises, insert-has, insert-length, insert-fits, without-rises, without-has, without-length, without-fits}
-use Rattle.promises.specs.Answers.{Answered, answer, answers, setAfter, answer-held, answer-full, answer-put, answer-missing, answer-dropped}
+use Rattle.promises.specs.Answers.{Answered, answer, answers, setAfter}
 
 -- A good state that holds the pairs of a set.
 pub record Holds (g : Geometry) (s : State) (set : List Pair) : Type 0 where
@@ -38,26 +43,30 @@ plainReplies rest = map (λ a. a .reply) rest
 
 -- A request that comes to the same on both.
 pub record Agrees (g : Geometry) (o : Outcome) (a : Answered) : Type 0 where
-  pub replies : o .reply ≡ a .reply
+  pub reply : o .reply ≡ a .reply
   pub after : Holds g (o .after) (a .after)
 
 module _ (g : Geometry) (fit : InRange g) where
   -- One request.
   module _ (p : Pair) (w : Words p) (s : State) (set : List Pair) (holds : Holds g s set) where
     put-agrees : Agrees g (put g p s) (answer (most g) (putting p) set)
-    unfolding refused done
+    unfolding refused done answer
     put-agrees = told (held p (s .tree)) (ltb (s .live) (most g)) refl refl
       where
         told : (h l : Bool) → held p (s .tree) ≡ h → ltb (s .live) (most g) ≡ l → Agrees g (put g p s) (answer (most g) (putting p) set)
-        told true l e k = rw (put-held g p s e, answer-held (most g) p set (sym (holds .members p) ∙ e)) (record { replies = refl; after = holds })
+        told true l e k =
+            let h : has p set ≡ true = sym (holds .members p) ∙ e in
+            rw (put-held g p s e, h, answer) (record { reply = refl; after = holds })
         told false false e k =
-            rw (put-full g p s e k, answer-full (most g) p set (sym (holds .members p) ∙ e) (rw (holds .size) at k))
-            (record { replies = refl; after = holds })
+            let h : has p set ≡ false = sym (holds .members p) ∙ e in
+            let full : ltb (length set) (most g) ≡ false = rw (holds .size) at k in
+            rw (put-full g p s e k, h, full, answer) (record { reply = refl; after = holds })
         told false true e k =
             let h : has p set ≡ false = sym (holds .members p) ∙ e in
-            rw (answer-put (most g) p set h (rw (holds .size) at k))
+            let room : ltb (length set) (most g) ≡ true = rw (holds .size) at k in
+            rw (h, room, answer)
             (record {
-              replies = ap (λ (o : Outcome). o .reply) (put-done g p s e k);
+              reply = ap (λ (o : Outcome). o .reply) (put-done g p s e k);
               after = record {
                 good = put-good g fit p w s (holds .good);
                 members = λ q.
@@ -70,16 +79,18 @@ module _ (g : Geometry) (fit : InRange g) where
             })
 
     drop-agrees : Agrees g (remove g p s) (answer (most g) (dropping p) set)
-    unfolding refused done
+    unfolding refused done answer
     drop-agrees = told (held p (s .tree)) refl
       where
         told : (h : Bool) → held p (s .tree) ≡ h → Agrees g (remove g p s) (answer (most g) (dropping p) set)
-        told false e = rw (remove-missing g p s e, answer-missing (most g) p set (sym (holds .members p) ∙ e)) (record { replies = refl; after = holds })
+        told false e =
+            let h : has p set ≡ false = sym (holds .members p) ∙ e in
+            rw (remove-missing g p s e, h, answer) (record { reply = refl; after = holds })
         told true e =
             let h : has p set ≡ true = sym (holds .members p) ∙ e in
-            rw (answer-dropped (most g) p set h)
+            rw (h, answer)
             (record {
-              replies = ap (λ (o : Outcome). o .reply) (remove-done g p s e);
+              reply = ap (λ (o : Outcome). o .reply) (remove-done g p s e);
               after = record {
                 good = remove-good g fit p w s (holds .good);
                 members = λ q.
@@ -103,7 +114,7 @@ module _ (g : Geometry) (fit : InRange g) where
   requests-agree (r ∷ rs) s set w holds =
       let first = step-agrees r s set (w .0) holds in
       let rest = requests-agree rs ((step g r s) .after) ((answer (most g) r set) .after) (w .1) (first .after) in
-      (ap₂ (λ (n : ℕ) (ns : List ℕ). n ∷ ns) (first .replies) (rest .0), rest .1)
+      (ap₂ (λ (n : ℕ) (ns : List ℕ). n ∷ ns) (first .reply) (rest .0), rest .1)
 
   -- A formatted store holds the empty set.
   formatted-empty : Holds g (formatted g) []
@@ -133,3 +144,7 @@ module _ (g : Geometry) (fit : InRange g) where
     -- The set is no larger than the bottom level's capacity.
     pub run-most : length set ≤ most g
     run-most = omega (arith, run-holds .size, run-holds .good .few)
+
+    -- On its writing the walk finds whether a pair is in the set.
+    pub run-asks : (p : Pair) → walked g (writing g reached) p ≡ Found (has p set) (decider p (reached .tree))
+    run-asks p = good-walks g reached fit (run-holds .good) p ∙ ap (λ (b : Bool). Found b (decider p (reached .tree))) (run-held p)
