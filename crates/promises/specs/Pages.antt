@@ -53,7 +53,7 @@ module _ (g : Geometry) (fit : InRange g) where
 
       told : (b : Bool) → ltb (length (level i t)) (capacity g i) ≡ b →
           (Cascading g (suc i) (mergedState i s) → n + suc i ≡ bottom g →
-          length ((settle g n (suc i) (merge i t)) .written) + (cascadeRoom g i + roomBefore g (suc (suc i))) ≤ cascadeRoom g ((settle g n (suc i) (merge i t)) .deepest)) →
+          length ((settle g n (suc i) (merge i t)) .written) + cascadeRoom g (suc i) ≤ cascadeRoom g ((settle g n (suc i) (merge i t)) .deepest)) →
           length ((settle g (suc n) i t) .written) + cascadeRoom g i ≤ cascadeRoom g ((settle g (suc n) i t) .deepest)
       told true h rest = rw (settle-stays g n i t h) (omega arith)
       told false h rest =
