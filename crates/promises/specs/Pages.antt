@@ -73,7 +73,8 @@ module _ (g : Geometry) (fit : InRange g) where
   settle-deepest zero i t = omega arith
   settle-deepest (suc n) i t = told (ltb (length (level i t)) (capacity g i)) refl (settle-deepest n (suc i) (merge i t))
     where
-      told : (b : Bool) → ltb (length (level i t)) (capacity g i) ≡ b → (settle g n (suc i) (merge i t)) .deepest ≤ n + suc i → (settle g (suc n) i t) .deepest ≤ suc n + i
+      told : (b : Bool) → ltb (length (level i t)) (capacity g i) ≡ b → (settle g n (suc i) (merge i t)) .deepest ≤ n + suc i →
+          (settle g (suc n) i t) .deepest ≤ suc n + i
       told true h rest = rw (settle-stays g n i t h) (omega arith)
       told false h rest = rw (settle-sinks g n i t h) (omega (arith, rest))
 
