@@ -3,6 +3,7 @@ use Prim.Native.Nat.{ℕ, zero, suc, _+_, _<_}
 use native.Mathlib.Omega.{arith}
 use mathlib.Core.Path.{_≡_, refl, _∙_}
 use mathlib.Core.Bool.{Bool, true, false}
+use mathlib.Core.List.{[], _++_}
 use lib.ListN.{length}
 use lib.Dec.{ltb}
 use borrow.Author.Tests.{ltb-true}
@@ -10,18 +11,22 @@ use Rattle.geometry.specs.declared.Geometry.{Geometry}
 use Rattle.geometry.specs.Geometry.{InRange, bottom, capacity}
 use Rattle.slot.specs.declared.Pair.{Pair}
 use Rattle.rules.specs.Tree.{Tree, level}
+use Rattle.rules.specs.Level.{slotsOf}
 use Rattle.rules.specs.Finding.{held}
-use Rattle.rules.specs.Merging.{State, merge, settle}
+use Rattle.rules.specs.Merging.{State, merge, pagesWritten, settle}
 use Rattle.rules.specs.Good.{Good, Cascading}
 use Rattle.good.specs.Cascade.{mergedState, merged-cascading, settled-upper, settled-bottom, merge-held}
 
--- A level settled stays where it has fewer entries than its capacity, and sinks otherwise.
+-- A level settled stays where it has fewer entries than its capacity, and is merged on otherwise.
 module _ (g : Geometry) (n i : ℕ) (t : Tree) where
-  pub settle-stays : ltb (length (level i t)) (capacity g i) ≡ true → (settle g (suc n) i t) .tree ≡ t
+  pub settle-stays : ltb (length (level i t)) (capacity g i) ≡ true → settle g (suc n) i t ≡ record { tree = t; deepest = i; written = [] }
   unfolding settle
   settle-stays e = rw (e, settle) refl
 
-  pub settle-sinks : ltb (length (level i t)) (capacity g i) ≡ false → (settle g (suc n) i t) .tree ≡ (settle g n (suc i) (merge i t)) .tree
+  pub settle-sinks : ltb (length (level i t)) (capacity g i) ≡ false →
+      settle g (suc n) i t ≡
+      (let rest = settle g n (suc i) (merge i t) in
+      record { tree = rest .tree; deepest = rest .deepest; written = pagesWritten (suc i) (slotsOf (merge i t)) ++ rest .written })
   unfolding settle
   settle-sinks e = rw (e, settle) refl
 

@@ -1,17 +1,15 @@
 -- The bench table: its starred cases, its list case and the errors that look right, computed by the rules as one statement over one list
 -- of cases.
 -- Assumes nothing.
-use Prim.Native.Nat.{ℕ, zero, suc, _+_, _*_}
+use Prim.Native.Nat.{ℕ, suc, _+_, _*_}
 use mathlib.Core.Path.{_≡_, refl}
 use mathlib.Core.Bool.{Bool, true, false}
 use mathlib.Core.List.{List, [], _∷_, _++_, map}
 use lib.ListN.{length, getD, replicate}
-use lib.Dec.{eqb}
 use Rattle.laws.specs.Lists.{span, concat, passing, all, equal}
 use Rattle.geometry.specs.declared.Geometry.{Geometry}
 use Rattle.geometry.specs.Geometry.{capacity, most, total, roomOver, room}
 use Rattle.geometry.specs.Places.{roomBefore, headRoom, levelStart, pagePlace, slotPlace}
-use Rattle.slot.specs.declared.Pair.{Pair}
 use Rattle.slot.specs.declared.Slot.{Slot}
 use Rattle.slot.specs.Pair.{pair, rank, least, before, same}
 use Rattle.slot.specs.Tag.{kindNamed, kindOf, pageOf, tagOf}
@@ -19,34 +17,18 @@ use Rattle.slot.specs.Slot.{wordsOf, slotAt}
 use Rattle.rules.specs.Level.{index, external, internal, pagesFor, firstOf, fenceOf, fences, place, weave, paged, over, layOn, laid, headOn, slotsOf}
 use Rattle.rules.specs.Level.{pageOf as pageSlotsOf}
 use Rattle.rules.specs.Finding.{find, held, atMost, stepBack, tellFrom, tell, walk, ask}
-use Rattle.rules.specs.Merging.{toggle, join, merge, pagesWritten, settle, toggleHead, edit, State, formatted, entries, Outcome, refused, done, put, remove}
+use Rattle.rules.specs.Merging.{toggle, join, merge, pagesWritten, settle, toggleHead, edit, formatted, entries, Outcome, refused, done, put, remove}
 use Rattle.rules.specs.Listing.{insert, pairsWith, pairsOf, heldBetween, pairWords, list}
 use Rattle.rules.specs.Store.{runWords, pageWords, levelWords, pageCount, directory, laidOut, writing}
 use Rattle.rules.specs.Sound.{pagesOf, slotsFrom, headSlots, countAt, pageSlots, levelSlots, entriesOf, firstAt, treeOf, pagesRight, directoryRight, follows, inOrder, legal, fencePages, firstIsLeast, headRight, countRight, pageFormed, ascending, levelLaid, withinCapacity, levelSound, headSound, alternating, countKind, liveRight, Fault, sound, faultAt, levelsFault, acrossFault, else, fault}
+use Rattle.rules.specs.Requests.{Request, putting, dropping, step, run, final, accepted, writes}
 use Rattle.rules.specs.Allowance.{allowedTo, allowed}
 
--- Calls from a formatted store, and what each came to.
-pub data Call : Type 0 where
-  putting : Pair → Call
-  dropping : Pair → Call
-
-unfoldable pub outcome : Geometry → Call → State → Outcome
-outcome g (putting p) s = put g p s
-outcome g (dropping p) s = remove g p s
-
-unfoldable pub run : Geometry → State → List Call → List Outcome
-run g s [] = []
-run g s (c ∷ cs) = let o = outcome g c s in o ∷ run g (o .after) cs
-
-unfoldable pub final : State → List Outcome → State
-final s [] = s
-final s (o ∷ os) = final (o .after) os
-
 -- Badges from a first on, n of them, at one floor.
-unfoldable pub puts : ℕ → ℕ → ℕ → List Call
+unfoldable pub puts : ℕ → ℕ → ℕ → List Request
 puts floor first n = span (λ b. putting (pair b floor)) first n
 
-unfoldable pub drops : ℕ → ℕ → ℕ → List Call
+unfoldable pub drops : ℕ → ℕ → ℕ → List Request
 drops floor first n = span (λ b. dropping (pair b floor)) first n
 
 -- What a case looks at: of the calls, their replies, deepest levels and pages written; of the end, live pairs, entries in each level, page
@@ -66,10 +48,6 @@ pub data Look : Type 0 where
   allPages : Look
   allowance : Look
   fenceTo : ℕ → Look
-
-unfoldable pub sum : List ℕ → ℕ
-sum [] = 0
-sum (n ∷ ns) = n + sum ns
 
 abbrev pub bit : Bool → ℕ
 bit true = 1
@@ -98,14 +76,14 @@ seen g os (listed first second slice) =
     let l = list (pair first 0) (pair second 0) ((final (formatted g) os) .tree) slice in
     l .pairs ∷ l .mark ∷ l .words
 seen g os soundness = let w = writing g (final (formatted g) os) in faultNumber (fault g w) ∷ length w ∷ []
-seen g os allPages = sum (map (λ o. length (o .written)) os) ∷ []
-seen g os allowance = allowed g (length (passing (λ o. eqb (o .reply) 0) os)) ∷ []
+seen g os allPages = length (writes os) ∷ []
+seen g os allowance = allowed g (length (accepted os)) ∷ []
 seen g os (fenceTo n) = let tag = getD (wordsOf (external least n)) 2 0 in tag ∷ (pageOf tag) .0 ∷ []
 
 -- A case: a geometry, calls, and what is seen afterwards, look by look.
 pub record Case : Type 0 where
   pub geometry : Geometry
-  pub calls : List Call
+  pub calls : List Request
   pub looks : List Look
   pub shows : List (List ℕ)
 
@@ -260,5 +238,5 @@ table =
 
 -- The rules give what the table says.
 pub bench-table : map observed table ≡ map (λ c. c .shows) table
-unfolding outcome run final puts drops sum pagesIn seen observed case1 case2 case2′ case3 case4 case5 case5′ case6 case7 case8 case9 case11 cancels staysDropped smallerBadge fenceFirst table span concat passing capacity most total roomOver room roomBefore rank least before same kindNamed kindOf pageOf tagOf wordsOf index external internal pagesFor firstOf fenceOf fences place weave paged over layOn laid headOn slotsOf pageSlotsOf find held atMost stepBack tellFrom tell walk ask toggle join merge pagesWritten settle toggleHead edit formatted entries refused done put remove allowedTo allowed headRoom levelStart pagePlace slotPlace slotAt insert pairsWith pairsOf heldBetween pairWords list runWords pageWords levelWords pageCount directory laidOut writing pagesOf slotsFrom headSlots countAt pageSlots levelSlots entriesOf firstAt treeOf pagesRight directoryRight follows inOrder legal fencePages firstIsLeast headRight countRight pageFormed ascending levelLaid withinCapacity levelSound headSound alternating countKind liveRight levelsFault acrossFault else fault all equal
+unfolding step run final accepted writes puts drops pagesIn seen observed case1 case2 case2′ case3 case4 case5 case5′ case6 case7 case8 case9 case11 cancels staysDropped smallerBadge fenceFirst table span concat passing capacity most total roomOver room roomBefore rank least before same kindNamed kindOf pageOf tagOf wordsOf index external internal pagesFor firstOf fenceOf fences place weave paged over layOn laid headOn slotsOf pageSlotsOf find held atMost stepBack tellFrom tell walk ask toggle join merge pagesWritten settle toggleHead edit formatted entries refused done put remove allowedTo allowed headRoom levelStart pagePlace slotPlace slotAt insert pairsWith pairsOf heldBetween pairWords list runWords pageWords levelWords pageCount directory laidOut writing pagesOf slotsFrom headSlots countAt pageSlots levelSlots entriesOf firstAt treeOf pagesRight directoryRight follows inOrder legal fencePages firstIsLeast headRight countRight pageFormed ascending levelLaid withinCapacity levelSound headSound alternating countKind liveRight levelsFault acrossFault else fault all equal
 bench-table = refl

@@ -10,6 +10,8 @@
 --   Sound     "Sound stores"
 --   Good      good states, and what a cascade of merges keeps
 --   Reading   what reading a store laid out in slots gives
+--   Requests  requests one after another
+--   Allowance condition 3's most pages
 --   Bench     the bench table, proved
 pub mod Tree
 pub mod Level
@@ -20,5 +22,6 @@ pub mod Store
 pub mod Sound
 pub mod Good
 pub mod Reading
+pub mod Requests
 pub mod Allowance
 pub mod Bench
