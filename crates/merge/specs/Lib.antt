@@ -8,3 +8,5 @@ pub mod Head
 pub mod Runs
 pub mod Source
 pub mod Joined
+pub mod Rebuilding
+pub mod Settling

@@ -1,36 +1,21 @@
 use Rattle.merge.specs.Source.{fill-told}
 use Prim.Native.Nat.{_≤_}
 use Rattle.merge.specs.Source.{put-inside, slots-small}
-use Rattle.rules.specs.Sound.{levelLaid}
-use mathlib.Core.Path.{_≡_, refl, sym, ap, subst, _∙_}
+use mathlib.Core.Path.{refl}
 use denote.Ref.{now}
 use lib.ListN.{length}
-use Rattle.geometry.specs.Places.{pageWords}
-use Rattle.geometry.specs.Lent.{rooms-at, starts-at, room-at}
-use Rattle.rules.specs.Merging.{join}
-use Rattle.rules.specs.Level.{pagesFor}
-use Rattle.entries.specs.Run.{entriesIn}
-use Rattle.merge.specs.Filling.{filledPages}
-use Rattle.merge.specs.Source.{sourceAt, source-laid, source-inside, source-ascends, whole-work, room-in-work, slots-in-work, level-filled}
+use Rattle.merge.specs.Source.{source-inside, source-ascends, whole-work, room-in-work}
 use native.Mathlib.Omega.{arith}
 use borrow.Author.Needs.{needs}
 use Rattle.merge.proofs.fill_level.Statement.{statement}
 use Rattle.merge.proofs.fill_level.Tie as tie
-use Rattle.merge.proofs.fill_level.Reads as reads
-use Rattle.merge.proofs.fill_level.Lts as lts
-use Rattle.merge.proofs.put_level.Reads as put-level-reads
-use Rattle.merge.proofs.source_over.Reads as source-over-reads
-use Rattle.writer.proofs.pages_for.Reads as pages-for-reads
-use Rattle.writer.proofs.write_level.Reads as write-level-reads
 
--- src/lib.rt:167:9
 source-over-requires : tie.Need-source-over-requires
 source-over-requires c κs = search needs
 
--- src/lib.rt:168:9
 write-level-requires : tie.Need-write-level-requires
 write-level-requires c κs =
-        let g = c .before .before .before .before .before .before .args .g in
+    let g = c .before .before .before .before .before .before .args .g in
     let w = now (c .before .before .before .before .before .before .args .store) in
     let i = c .before .before .before .before .before .before .args .level in
     let l = c .before .before .before .before .before .before .pre .0 in
@@ -48,37 +33,32 @@ write-level-requires c κs =
       ),
     )
 
--- src/lib.rt:169:41
 pages-for-requires : tie.Need-pages-for-requires
 pages-for-requires c κs =
-        let g = c .before .before .before .before .before .before .before .before .before .before .before .args .g in
+    let g = c .before .before .before .before .before .before .before .before .before .before .before .args .g in
     let l = c .before .before .before .before .before .before .before .before .before .before .before .pre .0 in
     let h : c .before .before .before .before .before .before .before .before .before .before .before .args .level ≤ 3 = omega (arith, c .before .before .before .before .before .before .before .before .before .before .before .pre .1 .1 .0 .1, l .in-range .levels-most) in
     let n = slots-small g (now (c .before .before .before .before .before .before .before .before .before .before .before .args .store)) (now (c .before .before .before .before .before .before .before .before .before .before .before .args .work)) (c .before .before .before .before .before .before .before .before .before .before .before .args .level) (c .before .before .before .before .write-level .result) (c .before .before .before .before .before .before .before .before .before .before .before .args .upper) (c .before .before .before .before .before .before .before .before .before .before .before .args .lower) (l .in-range) (c .before .before .before .before .before .before .before .before .before .before .before .pre .1 .0) (c .before .before .before .before .before .before .before .before .before .before .before .pre .1 .1 .0 .0) h (c .before .before .before .before .before .before .before .before .before .before .before .pre .1 .1 .1 .1) (rw (← (c .before .before .before .before .before .before .before .source-over .ensures)) (c .before .before .before .before .write-level .ensures .1)) in
     omega (arith, n, whole-work g (l .in-range) (now (c .before .before .before .before .before .before .before .before .before .before .before .args .work)) (c .before .before .before .before .before .before .before .before .before .before .before .pre .1 .0) .few)
 
--- src/lib.rt:169:5
 put-level-requires : tie.Need-put-level-requires
 put-level-requires c κs =
-        let g = c .before .before .before .before .before .before .before .before .before .before .before .before .args .g in
+    let g = c .before .before .before .before .before .before .before .before .before .before .before .before .args .g in
     let l = c .before .before .before .before .before .before .before .before .before .before .before .before .pre .0 in
     let h : c .before .before .before .before .before .before .before .before .before .before .before .before .args .level ≤ 3 = omega (arith, c .before .before .before .before .before .before .before .before .before .before .before .before .pre .1 .1 .0 .1, l .in-range .levels-most) in
     let r = room-in-work g (l .in-range) (now (c .before .before .before .before .before .before .before .before .before .before .before .before .args .work)) (c .before .before .before .before .before .before .before .before .before .before .before .before .pre .1 .0) (c .before .before .before .before .before .before .before .before .before .before .before .before .args .level) (c .before .before .before .before .before .before .before .before .before .before .before .before .pre .1 .1 .0 .0) h in
     let whole = whole-work g (l .in-range) (now (c .before .before .before .before .before .before .before .before .before .before .before .before .args .work)) (c .before .before .before .before .before .before .before .before .before .before .before .before .pre .1 .0) in
     put-inside g (c .before .before .before .before .before .before .before .before .before .before .before .before .args .plan) _ _ (c .before .before .before .before .before .before .before .before .before .before .before .before .args .level) l (c .before .before .before .before .before .before .before .before .before .before .before .before .pre .1 .1 .0 .0) (c .before .before .before .before .before .before .before .before .before .before .before .before .pre .1 .1 .0 .1) (omega (arith, r, whole .whole))
 
--- src/lib.rt:150:1
 same-length : tie.Need-same-length
 same-length c = search needs
 
--- src/lib.rt:150:1
 same-length-2 : tie.Need-same-length-2
 same-length-2 c = search needs
 
--- src/lib.rt:150:1
 returns : tie.Need-returns
 returns c =
-        let g = c .before .before .before .before .before .before .before .before .before .before .before .before .before .before .before .args .g in
+    let g = c .before .before .before .before .before .before .before .before .before .before .before .before .before .before .before .args .g in
     let l = c .before .before .before .before .before .before .before .before .before .before .before .before .before .before .before .pre .0 in
     let h : c .before .before .before .before .before .before .before .before .before .before .before .before .before .before .before .args .level ≤ 3 = omega (arith, c .before .before .before .before .before .before .before .before .before .before .before .before .before .before .before .pre .1 .1 .0 .1, l .in-range .levels-most) in
     let r = room-in-work g (l .in-range) (now (c .before .before .before .before .before .before .before .before .before .before .before .before .before .before .before .args .work)) (c .before .before .before .before .before .before .before .before .before .before .before .before .before .before .before .pre .1 .0) (c .before .before .before .before .before .before .before .before .before .before .before .before .before .before .before .args .level) (c .before .before .before .before .before .before .before .before .before .before .before .before .before .before .before .pre .1 .1 .0 .0) h in

@@ -1,42 +1,31 @@
-use mathlib.Core.Path.{_≡_, refl, sym, _∙_}
+use mathlib.Core.Path.{refl, _∙_}
 use denote.Ref.{now}
 use Rattle.merge.specs.Joined.{none-joined, none-joinable}
-use native.Mathlib.Omega.{arith}
 use borrow.Author.Needs.{needs}
 use Rattle.merge.proofs.rebuild_level.Statement.{statement}
 use Rattle.merge.proofs.rebuild_level.Tie as tie
-use Rattle.merge.proofs.rebuild_level.Reads as reads
-use Rattle.merge.proofs.rebuild_level.Lts as lts
-use Rattle.merge.proofs.fill_level.Reads as fill-level-reads
-use Rattle.writer.proofs.no_run.Reads as no-run-reads
 
--- src/lib.rt:144:9
 no-run-requires : tie.Need-no-run-requires
 no-run-requires c κs = search needs
 
--- src/lib.rt:145:9
 no-run-requires-2 : tie.Need-no-run-requires-2
 no-run-requires-2 c κs = search needs
 
--- src/lib.rt:138:5
 fill-level-requires : tie.Need-fill-level-requires
 fill-level-requires c κs =
-        let w = now (c .before .before .before .before .before .before .args .store) in
+    let w = now (c .before .before .before .before .before .before .args .store) in
     let n = none-joined w (c .before .no-run .ensures) (c .no-run2 .ensures) in
     (c .before .before .before .before .before .before .pre .0, (c .before .before .before .before .before .before .pre .1 .0, (c .before .before .before .before .before .before .pre .1 .1 .0, (none-joinable w (c .before .no-run .ensures) (c .no-run2 .ensures), rw n (c .before .before .before .before .before .before .pre .1 .1 .1)))))
 
--- src/lib.rt:124:1
 same-length : tie.Need-same-length
 same-length c = search needs
 
--- src/lib.rt:124:1
 same-length-2 : tie.Need-same-length-2
 same-length-2 c = search needs
 
--- src/lib.rt:124:1
 returns : tie.Need-returns
 returns c =
-        let n = none-joined (now (c .before .before .before .before .before .before .before .before .before .before .before .args .store)) (c .before .before .before .before .before .before .no-run .ensures) (c .before .before .before .before .before .no-run2 .ensures) in
+    let n = none-joined (now (c .before .before .before .before .before .before .before .before .before .before .before .args .store)) (c .before .before .before .before .before .before .no-run .ensures) (c .before .before .before .before .before .no-run2 .ensures) in
     ((c .before .before .before .before .fill-level .ensures .0) ∙ rw n refl, (c .before .before .before .before .fill-level .ensures .1) ∙ rw n refl)
 
 pub rebuild-level-spec : {M : Type 1} → statement M
