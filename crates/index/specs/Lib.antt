@@ -5,4 +5,5 @@ pub mod Opening
 pub mod Ask
 pub mod Check
 pub mod List
+pub mod Format
 pub mod Unique

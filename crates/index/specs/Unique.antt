@@ -5,6 +5,7 @@ use mathlib.Core.Bool.{Bool, true, false}
 use mathlib.Core.List.{List}
 use lib.ListN.{getD}
 use lib.Dec.{eqb}
+use Rattle.geometry.specs.declared.Geometry.{Geometry}
 use Rattle.slot.specs.declared.Pair.{Pair}
 use Rattle.index.specs.declared.Asked.{Asked}
 use Rattle.index.specs.declared.Checked.{Checked}
@@ -12,10 +13,13 @@ use Rattle.index.specs.declared.Shown.{Shown}
 use Rattle.index.specs.declared.Asked.the-variants.{Answer, Range, Length, Fault}
 use Rattle.index.specs.declared.Checked.the-variants.{Done, Range as Range-of-check, Length as Length-of-check, Fault as Fault-of-check}
 use Rattle.index.specs.declared.Shown.the-variants.{Pairs, Range as Range-of-list, Length as Length-of-list, Fault as Fault-of-list}
+use Rattle.index.specs.declared.Formatted.{Formatted}
+use Rattle.index.specs.declared.Formatted.the-variants.{Done as Done-of-format, Range as Range-of-format, Length as Length-of-format}
 use Rattle.index.specs.Reply.{Reply}
 use Rattle.index.specs.Ask.{askReply, askOf}
 use Rattle.index.specs.Check.{checkReply, checkOf}
 use Rattle.index.specs.List.{Filled, listReply, listOf}
+use Rattle.index.specs.Format.{formatReply, formatOf}
 
 -- A choice by the reply's number: 0, 1, and 5 or 6 told apart by whether it is 5.
 pick : {A : Type 0} → ℕ → A → A → A → A → A
@@ -76,4 +80,26 @@ pub list-has-one-answer : (w : List ℕ) (first second : Pair) (slice : List ℕ
 list-has-one-answer w first second slice a b v u p q = (
   sym (list-told a v) ∙ ap shownBy (p ∙ sym q) ∙ list-told b u,
   sym (words-told a v) ∙ ap (λ (f : Filled). f .words) (p ∙ sym q) ∙ words-told b u,
+)
+
+-- Format, with every word of the store.
+formattedBy : Filled → Formatted
+formattedBy f = pick (f .reply .number) Done-of-format Range-of-format Length-of-format Length-of-format
+
+format-told : (a : Formatted) (words : List ℕ) → formattedBy (formatReply a words) ≡ a
+unfolding formattedBy pick
+format-told Done-of-format words = refl
+format-told Range-of-format words = refl
+format-told Length-of-format words = refl
+
+store-told : (a : Formatted) (words : List ℕ) → (formatReply a words) .words ≡ words
+store-told Done-of-format words = refl
+store-told Range-of-format words = refl
+store-told Length-of-format words = refl
+
+pub format-has-one-answer : (w : List ℕ) (g : Geometry) (a b : Formatted) (v u : List ℕ) → formatReply a v ≡ formatOf w g → formatReply b u ≡ formatOf w g →
+    (a ≡ b) × (v ≡ u)
+format-has-one-answer w g a b v u p q = (
+  sym (format-told a v) ∙ ap formattedBy (p ∙ sym q) ∙ format-told b u,
+  sym (store-told a v) ∙ ap (λ (f : Filled). f .words) (p ∙ sym q) ∙ store-told b u,
 )

@@ -7,6 +7,7 @@ ghost use Rattle.index.specs.Opening.{Opens};
 ghost use Rattle.index.specs.Ask.{askReply, askOf};
 ghost use Rattle.index.specs.Check.{checkReply, checkOf};
 ghost use Rattle.index.specs.List.{listReply, listOf};
+ghost use Rattle.index.specs.Format.{formatReply, formatOf};
 use geometry::Geometry;
 use geometry::Plan;
 use listing::list_pairs;
@@ -99,6 +100,28 @@ pub fn list(store: &[u32], first: Pair, second: Pair, out: &mut [u32]) -> Shown
             Shown::Pairs(listed.pairs, listed.mark)
         }
     }
+}
+
+// What format answers: that the store is made, or the reply's number in words.
+pub enum Formatted {
+    Done,
+    Range,
+    Length,
+}
+
+// Makes the store of the empty set.
+pub fn format(store: &mut [u32], g: Geometry) -> Formatted
+    ensures { λ r. ⌜ formatReply r (now (store .exit)) ≡ formatOf (now (store .entry)) g ⌝ }
+{
+    if !geometry::in_range(g) {
+        return Formatted::Range;
+    }
+    let plan = geometry::plan_for(g);
+    if store.len() != plan.store_words as usize {
+        return Formatted::Length;
+    }
+    format::format_store(store, g, plan);
+    Formatted::Done
 }
 
 // A store's geometry and plan, and the reply of the tests that come before all others: 0, or 1 or 5.
