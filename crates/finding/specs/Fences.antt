@@ -12,6 +12,7 @@ use Rattle.slot.specs.declared.Pair.{Pair}
 use Rattle.slot.specs.declared.Slot.{Slot}
 use Rattle.slot.specs.Pair.{rank, least, least-first}
 use Rattle.rules.specs.Level.{external, pagesFor, firstOf, fenceOf, fences}
+use Rattle.rules.specs.Pages.{pages-some, pages-inside}
 use Rattle.rules.specs.Sound.{fencePages, legal}
 use Rattle.finding.specs.Tests.{all-span}
 use Rattle.finding.specs.Rising.{weight, Rising, weight-least, weight-most, rising-at, rising-apart, rising-span}
@@ -25,19 +26,6 @@ fencesOver (below ∷ ss) = fences (firstOf below) (pagesFor (length below))
 unfoldable pub pagesUnder : List (List Slot) → ℕ
 pagesUnder [] = 0
 pagesUnder (below ∷ ss) = pagesFor (length below)
-
--- Pages are as many as the slots need, and one at least.
-pub pages-some : (n : ℕ) → 1 ≤ pagesFor n
-unfolding pagesFor
-pages-some n = omega arith
-
-pub pages-inside : (n q : ℕ) → 1 ≤ q → q < pagesFor n → 21 * q < n
-unfolding pagesFor
-pages-inside n q h b = omega arith
-
-pub pages-reach : (n q : ℕ) → 21 * q < n → q < pagesFor n
-unfolding pagesFor
-pages-reach n q h = omega arith
 
 -- A fence over the pages below: its kind, its page and its weight.
 module _ (first : ℕ → Pair) where

@@ -22,7 +22,7 @@ use Rattle.rules.specs.Sound.{legal, firstIsLeast, firstRight}
 use Rattle.finding.specs.Tests.{all-take}
 use Rattle.finding.specs.Rising.{weight, Rising, weight-least, weight-most, entry-weight, rising-take, rising-drop}
 use Rattle.finding.specs.Woven.{fence}
-use Rattle.finding.specs.Fences.{pages-inside, pages-reach}
+use Rattle.rules.specs.Pages.{pages-inside, pages-reach}
 use Rattle.finding.specs.Rows.{Row, some-slot}
 use Rattle.finding.specs.Telling.{tellOn, by-slot, on-above, on-fence, on-entry, on-past, tell-forward}
 use Rattle.finding.specs.RowTold.{Leads}

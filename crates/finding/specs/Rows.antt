@@ -18,7 +18,8 @@ use Rattle.finding.specs.Tests.{all-drop}
 use Rattle.finding.specs.Rising.{Rising}
 use Rattle.finding.specs.Woven.{fence, index-legal, all-woven, rising-entries, rising-woven}
 use Rattle.finding.specs.Paged.{legal-paged, rising-paged, fence-opens}
-use Rattle.finding.specs.Fences.{fencesOver, pagesUnder, pages-some, fences-only, fences-legal, bottom-legal, fences-rising, fences-first}
+use Rattle.rules.specs.Pages.{pages-some}
+use Rattle.finding.specs.Fences.{fencesOver, pagesUnder, fences-only, fences-legal, bottom-legal, fences-rising, fences-first}
 
 -- The row of a level over those below it.
 unfoldable pub rowOn : Level → List (List Slot) → List Slot

@@ -71,10 +71,6 @@ pub paged-pages : (ss : List Slot) (n : ℕ) → 1 ≤ n → length ss ≤ n →
 unfolding pagesFor
 paged-pages ss n h l = omega (arith, paged-economical ss 0 0 0 (omega arith) (omega arith) (omega arith))
 
-pub pages-least : (n : ℕ) → 1 ≤ pagesFor n
-unfolding pagesFor
-pages-least n = omega arith
-
 pub pages-within : (m n : ℕ) → 1 ≤ n → m ≤ n → pagesFor m ≤ (n + 20) / 21
 unfolding pagesFor
 pages-within m n h l = omega arith

@@ -16,7 +16,8 @@ use Rattle.slot.specs.declared.Slot.{Slot}
 use Rattle.rules.specs.Tree.{Level, Tree, level}
 use Rattle.rules.specs.Level.{index, pagesFor, paged, over, laid, headOn, slotsOf}
 use Rattle.rules.specs.Good.{TreeFits, Roomy, SlotsFit, Fits}
-use Rattle.good.specs.Pages.{over-length, paged-pages, pages-least, pages-within, laid-length, laid-above, laid-bottom, head-over}
+use Rattle.rules.specs.Pages.{pages-some}
+use Rattle.good.specs.Pages.{over-length, paged-pages, pages-within, laid-length, laid-above, laid-bottom, head-over}
 use Rattle.good.specs.Fitting.{over-fits, laid-fits}
 
 -- A level without slots has one page.
@@ -37,7 +38,7 @@ module _ (g : Geometry) (fit : InRange g) where
       pagesFor (length (paged 0 0 (over es below))) ≤ room g i
   upper-pages i es below h l e b =
       rw (room-above g i h l)
-      (paged-pages (over es below) (total g i + room g (suc i)) (omega (arith, b, pages-least (length below))) (omega (arith, e, b, over-length es below)))
+      (paged-pages (over es below) (total g i + room g (suc i)) (omega (arith, b, pages-some (length below))) (omega (arith, e, b, over-length es below)))
 
   -- The levels of t, from level i on, in their rooms.
   laid-rooms : (t : Tree) (i : ℕ) → 1 ≤ i → i + length t ≡ g .levels → ((j : ℕ) → suc j < length t → length (level j t) ≤ total g (i + j)) →

@@ -5,12 +5,12 @@ use native.Mathlib.Numerals.{add-one}
 use native.Mathlib.Omega.{arith}
 use mathlib.Core.Path.{_≡_, refl, sym, ap, _∙_}
 use mathlib.Core.Bool.{Bool, true, false}
-use mathlib.Core.List.{List, [], _∷_, _++_}
+use mathlib.Core.List.{List, [], _∷_, _++_, append-assoc}
 use lib.ListN.{length, getD, take, drop, replicate, length-replicate, getD-replicate, length-take, length-drop}
 use lib.Seq.{ext-getD, getD-take, getD-drop, take-at, drop-at}
 use lib.Dec.{eqb}
 use borrow.Author.Tests.{eqb-true, eq-eqb}
-use Rattle.laws.specs.Lists.{span, equal, all}
+use Rattle.laws.specs.Lists.{span, concat, equal, all}
 
 -- Two tests that pass together are equal.
 pub bool-agree : (a b : Bool) → (a ≡ true → b ≡ true) → (b ≡ true → a ≡ true) → a ≡ b
@@ -114,3 +114,9 @@ replicate-slice w a k v j e l u =
     let b : j - a < k = omega arith in
     ap (λ (n : ℕ). getD w n 0) q ∙ sym (getD-drop a w (j - a) 0) ∙ sym (getD-take k (drop a w) (j - a) 0 b) ∙
     ap (λ (l : List ℕ). getD l (j - a) 0) e ∙ getD-replicate k (j - a) v 0 b
+
+-- Lists of lists joined end to end.
+pub concat-append : {A : Type 0} (ls ms : List (List A)) → concat (ls ++ ms) ≡ concat ls ++ concat ms
+unfolding concat
+concat-append [] ms = refl
+concat-append (l ∷ ls) ms = rw (concat-append ls ms) (sym (append-assoc l (concat ls) (concat ms)))

@@ -5,13 +5,13 @@ use native.Mathlib.Numerals.{add-one}
 use native.Mathlib.Omega.{arith}
 use mathlib.Core.Path.{_≡_, refl, sym, ap, _∙_}
 use mathlib.Core.Bool.{Bool, true, false, not}
-use mathlib.Core.List.{List, [], _∷_, _++_, append-assoc}
+use mathlib.Core.List.{List, [], _++_}
 use lib.ListN.{length, getD, set, take}
 use lib.Seq.{sets, take-at}
 use lib.Dec.{ltb, eqb}
 use borrow.Author.Tests.{ltb-true, ltb-false, eq-eqb, ne-eqb}
 use Rattle.laws.specs.Lists.{span, concat}
-use Rattle.laws.specs.Flat.{span-append}
+use Rattle.laws.specs.Flat.{concat-append, span-append}
 use Rattle.geometry.specs.declared.Geometry.{Geometry}
 use Rattle.geometry.specs.declared.Plan.{Plan}
 use Rattle.geometry.specs.Geometry.{InRange, bottom, room}
@@ -137,17 +137,12 @@ put-inside g plan w work i l h u b =
     }
 
 -- The first pages of a written level are the level in less room.
-concat-joined : {A : Type 0} (xs ys : List (List A)) → concat (xs ++ ys) ≡ concat xs ++ concat ys
-unfolding concat
-concat-joined [] ys = refl
-concat-joined (x ∷ xs) ys = ap (λ (l : List _). x ++ l) (concat-joined xs ys) ∙ sym (append-assoc x (concat xs) (concat ys))
-
 pub level-front : (slots : List Slot) (m n : ℕ) → m ≤ n → take (64 * m) (levelWords slots n) ≡ levelWords slots m
 level-front slots m n h =
     let e : n ≡ m + (n - m) = omega arith in
     let split : levelWords slots n ≡ levelWords slots m ++ concat (span (levelPage slots) (0 + m) (n - m)) =
     level-pages slots n ∙ ap (λ (k : ℕ). concat (span (levelPage slots) 0 k)) e ∙ ap concat (span-append (levelPage slots) 0 m (n - m)) ∙
-    concat-joined (span (levelPage slots) 0 m) (span (levelPage slots) (0 + m) (n - m)) ∙
+    concat-append (span (levelPage slots) 0 m) (span (levelPage slots) (0 + m) (n - m)) ∙
     ap (λ (l : List ℕ). l ++ concat (span (levelPage slots) (0 + m) (n - m))) (sym (level-pages slots m)) in
     rw split (take-at (levelWords slots m) (concat (span (levelPage slots) (0 + m) (n - m))) (64 * m) (level-words slots m))
 

@@ -8,6 +8,7 @@
 --   Listing   "List"
 --   Store     the writing of a whole store, word by word
 --   Sound     "Sound stores"
+--   Pages     laws of the number of pages that slots take
 --   Good      good states, and what a cascade of merges keeps
 --   Reading   what reading a store laid out in slots gives
 --   Requests  requests one after another
@@ -20,6 +21,7 @@ pub mod Merging
 pub mod Listing
 pub mod Store
 pub mod Sound
+pub mod Pages
 pub mod Good
 pub mod Reading
 pub mod Requests

@@ -17,7 +17,8 @@ use Rattle.rules.specs.Tree.{Level}
 use Rattle.rules.specs.Level.{index, external, pagesFor, firstOf, fenceOf, fences, weave, paged, over}
 use Rattle.rules.specs.Store.{levelWords}
 use Rattle.rules.specs.Sound.{pagesOf, firstAt, levelLaid}
-use Rattle.stored.specs.Reading.{page-holds, first-stands}
+use Rattle.rules.specs.Pages.{pages-inside}
+use Rattle.stored.specs.Reading.{first-stands}
 
 -- Fences to the same pages agree where those pages' first pairs do; that of page 0 is never asked.
 fences-agree : (f h : ℕ → Pair) (n : ℕ) → ((p : ℕ) → 1 ≤ p → p < n → f p ≡ h p) → fences f n ≡ fences h n
@@ -44,7 +45,7 @@ module _ (g : Geometry) (w : List ℕ) (i : ℕ) where
         let n = pagesFor (length below) in
         rw (
           pages,
-          fences-agree (firstAt g w (suc i)) (firstOf below) n (λ p l b. first-stands g w (suc i) below whole exists fits stands p (page-holds (length below) p l b)),
+          fences-agree (firstAt g w (suc i)) (firstOf below) n (λ p l b. first-stands g w (suc i) below whole exists fits stands p (pages-inside (length below) p l b)),
         ) refl
 
     pub laid-over : (es : Level) → suc i < g .levels → levelLaid g w i es ≡ paged 0 0 (over es below)

@@ -13,6 +13,7 @@ use Rattle.geometry.specs.Apart.{level-one, level-after, level-inside, first-sl
 use Rattle.slot.specs.declared.Slot.{Slot}
 use Rattle.slot.specs.Pair.{least}
 use Rattle.slot.specs.Slot.{slotAt}
+use Rattle.rules.specs.Pages.{pages-some, pages-reach}
 use Rattle.rules.specs.Level.{external, pagesFor, pageOf, firstOf}
 use Rattle.rules.specs.Store.{levelWords, pageCount, directory, laidOut}
 use Rattle.rules.specs.Sound.{geometryOf, pagesOf, slotsFrom, headSlots, countAt, pageSlots, levelSlots, firstAt}
@@ -25,19 +26,6 @@ use Rattle.written.specs.Parts.{level-own}
 use Rattle.entries.specs.Levels.{pages-there}
 use Rattle.stored.specs.Parts.{Parts, page-count, no-page-count, laid-parts}
 
--- Every level has a page, and every page but the first has a slot.
-pages-least : (n : ℕ) → 1 ≤ pagesFor n
-unfolding pagesFor
-pages-least n = omega arith
-
-page-within : (n p : ℕ) → 21 * p < n → p < pagesFor n
-unfolding pagesFor
-page-within n p h = omega arith
-
-pub page-holds : (n p : ℕ) → 1 ≤ p → p < pagesFor n → 21 * p < n
-unfolding pagesFor
-page-holds n p l h = omega arith
-
 -- A level whose words are those of slots in its room.
 module _ (g : Geometry) (w : List ℕ) (i : ℕ) (slots : List Slot) (whole : length w ≡ storeWords g) (exists : i < 4) (fits : pagesFor (length slots) ≤ room g i)
     (stands : take (64 * room g i) (drop (levelStart g i) w) ≡ levelWords slots (room g i)) where
@@ -46,23 +34,23 @@ module _ (g : Geometry) (w : List ℕ) (i : ℕ) (slots : List Slot) (whole : le
 
   pub count-stands : (p : ℕ) → p < pagesFor (length slots) → countAt g w i p ≡ length (pageOf slots p)
   unfolding countAt pagePlace countOf
-  count-stands p b = count-read w (levelStart g i) (room g i) (pagesFor (length slots)) inside (pages-least (length slots)) fits slots refl stands p b
+  count-stands p b = count-read w (levelStart g i) (room g i) (pagesFor (length slots)) inside (pages-some (length slots)) fits slots refl stands p b
 
   pub page-stands : (p : ℕ) → p < pagesFor (length slots) → pageSlots g w i p ≡ pageOf slots p
   unfolding pageSlots countAt pagePlace pageRun countOf
   page-stands p b =
-      rw (first-slot g i p) (page-read w (levelStart g i) (room g i) (pagesFor (length slots)) inside (pages-least (length slots)) fits slots refl stands p b)
+      rw (first-slot g i p) (page-read w (levelStart g i) (room g i) (pagesFor (length slots)) inside (pages-some (length slots)) fits slots refl stands p b)
 
   pub level-stands : pagesOf g w i ≡ pagesFor (length slots) → levelSlots g w i ≡ slots
   level-stands e =
-      level-own g w i ∙ rw e (level-read w (levelStart g i) (room g i) (pagesFor (length slots)) inside (pages-least (length slots)) fits slots refl stands)
+      level-own g w i ∙ rw e (level-read w (levelStart g i) (room g i) (pagesFor (length slots)) inside (pages-some (length slots)) fits slots refl stands)
 
   pub first-stands : (p : ℕ) → 21 * p < length slots → firstAt g w i p ≡ firstOf slots p
   unfolding firstAt firstOf pageSlots slotsFrom pageOf
   first-stands p h =
       let none : Slot = external least 0 in
       let at = slotPlace g i p 0 in
-      let e = page-stands p (page-within (length slots) p h) in
+      let e = page-stands p (pages-reach (length slots) p h) in
       let n = min (countAt g w i p) 21 in
       let some : 0 < n = omega (arith, ap length e, slots-length w at n, page-length slots p) in
       let z : at + 3 * (0 + 0) ≡ at = omega arith in

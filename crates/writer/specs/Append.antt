@@ -11,7 +11,7 @@ use lib.Seq.{sets, sets-eq, set-append-left, length-sets, take-append-le, drop-a
 use lib.Dec.{ltb}
 use borrow.Author.Tests.{ltb-true, ltb-false}
 use Rattle.laws.specs.Lists.{span, concat}
-use Rattle.laws.specs.Flat.{span-append, span-agree}
+use Rattle.laws.specs.Flat.{concat-append, span-append, span-agree}
 use Rattle.geometry.specs.Places.{erased}
 use Rattle.slot.specs.declared.Slot.{Slot}
 use Rattle.slot.specs.Slot.{wordsOf}
@@ -49,11 +49,6 @@ stored-between a p c j v vs h k =
     (ap (λ (l : List ℕ). a ++ l) (set-append-left (sets p j vs) c 0 v (omega (arith, length-sets p j vs))))
 
 -- A level's pages around one of them -----------------------------------------------------------------------------------------------------------
-
-concat-append : {A : Type 0} (ls ms : List (List A)) → concat (ls ++ ms) ≡ concat ls ++ concat ms
-unfolding concat
-concat-append [] ms = refl
-concat-append (l ∷ ls) ms = rw (concat-append ls ms) (sym (append-assoc l (concat ls) (concat ms)))
 
 module _ (f : ℕ → List ℕ) where
   pages-around : (q room : ℕ) → q < room → concat (span f 0 room) ≡ concat (span f 0 q) ++ (f q ++ concat (span f (suc q) (room - suc q)))

@@ -180,9 +180,8 @@ pub fn next_slot(store: &[u32], source: Source, pen: Pen) -> Fed
     }
     let after = position + 1;
     if fenced_at(source.fenced, position as usize) {
-        let slot = inner_fence(pair, fence);
         return Fed::Slot(
-            slot,
+            inner_fence(pair, fence),
             Pen {
                 position: after,
                 fence,
