@@ -100,6 +100,10 @@ pub head-reach : (g : Geometry) (w : List ℕ) (asked : Pair) →
 unfolding headScanned marked
 head-reach g w asked = scan-reach asked false (getD w 4 0) (headSlots g w)
 
+pub head-entries : (g : Geometry) (w : List ℕ) (asked : Pair) → (headScanned g w asked) .entries ≡ length (entriesOf (headSlots g w))
+unfolding headScanned marked
+head-entries g w asked = scan-entries asked false (getD w 4 0) (headSlots g w)
+
 -- A pass with what its mark tells.
 pub page-told : (g : Geometry) (w : List ℕ) (asked : Pair) (i p : ℕ) → i < g .levels → {c : Scan} → c ≡ pageScanned g w asked i p →
     (c ≡ pageScanned g w asked i p) × (c .formed ≡ pageFormed g w i p)

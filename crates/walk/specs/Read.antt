@@ -73,7 +73,7 @@ module _ (g : Geometry) (w : List ℕ) (asked : Pair) where
   head-broken e = rw e
 
   module _ (right : headRight g w ≡ true) where
-    head-tests : (leb (getD w 8 0) (headRoom g) ≡ true) × (ltb (length (entriesOf headRun)) (g .head) ≡ true) × (inOrder headRun ≡ true) ×
+    pub head-tests : (leb (getD w 8 0) (headRoom g) ≡ true) × (ltb (length (entriesOf headRun)) (g .head) ≡ true) × (inOrder headRun ≡ true) ×
         (all (legal false (pagesOf g w 1)) headRun ≡ true) × (equal (fencePages headRun) (span (λ p. p) 0 (pagesOf g w 1)) ≡ true) ×
         (firstIsLeast headRun ≡ true)
     unfolding headRight headSlots

@@ -1,7 +1,7 @@
 -- The walk from the head down: in the head, and then in one page of each lower level. Assumes nothing.
 use Prim.Native.Nat.{ℕ, zero, suc, _+_, _-_, _≤_, _<_}
 use native.Mathlib.Omega.{arith}
-use mathlib.Core.Path.{_≡_, refl}
+use mathlib.Core.Path.{_≡_, refl, sym, _∙_}
 use mathlib.Core.Bool.{Bool, true, false, cond, _&&_}
 use mathlib.Core.List.{List, [], _∷_}
 use lib.ListN.{getD}
@@ -14,7 +14,7 @@ use Rattle.geometry.specs.Geometry.{bottom, most, room}
 use Rattle.geometry.specs.Places.{liveWord, pagesWord, reservedWord}
 use Rattle.slot.specs.declared.Pair.{Pair}
 use Rattle.slot.specs.declared.Pid.{Pid}
-use Rattle.rules.specs.Sound.{pagesOf, pagesRight, directoryRight}
+use Rattle.rules.specs.Sound.{pagesOf, pagesRight, directoryRight, headRight}
 use Rattle.walk.specs.declared.Step.{Step}
 use Rattle.walk.specs.declared.Step.the-variants.{Decided, Follow, Nothing, Broken}
 use Rattle.walk.specs.declared.Walked.{Walked}
@@ -102,3 +102,24 @@ pages-in-room g w i four right k h = at-level i (omega arith) k h
     at-level (suc (suc zero)) m k h = room-kept g w 2 h (and-left (pagesRight g w 2) (pagesRight g w 3) later)
     at-level (suc (suc (suc zero))) m k h = room-kept g w 3 h (and-right (pagesRight g w 2) (pagesRight g w 3) later)
     at-level (suc (suc (suc (suc i)))) m k h = absurd (omega arith)
+
+-- A walk that finds an answer has passed the tests of the directory and of the head.
+module _ (g : Geometry) (w : List ℕ) (asked : Pair) (held : Bool) (level : ℕ) (found : walked g w asked ≡ Found held level) where
+  not-faulty : (i : ℕ) → _≡_ {A = Walked} (Fault i) (Found held level) → ⊥
+  not-faulty i e = let z : _≡_ {A = ℕ} 0 1 = cc in omega arith
+
+  pub found-directory : directoryRight g w ≡ true
+  unfolding walked
+  found-directory = by-test (directoryRight g w) refl
+    where
+      by-test : (b : Bool) → directoryRight g w ≡ b → b ≡ true
+      by-test true e = refl
+      by-test false e = absurd (not-faulty 0 (rw e at found))
+
+  pub found-head : headRight g w ≡ true
+  unfolding walked headStep
+  found-head = by-test (headRight g w) refl
+    where
+      by-test : (b : Bool) → headRight g w ≡ b → b ≡ true
+      by-test true e = refl
+      by-test false e = absurd (not-faulty 0 (sym (walk-broken g w asked (bottom g) 0) ∙ rw (found-directory, e) at found))

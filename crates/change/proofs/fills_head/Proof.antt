@@ -1,0 +1,19 @@
+-- `fills_head` tells whether the head has its capacity with one entry more. Assumes nothing.
+use native.Mathlib.Numerals.{add-one}
+use mathlib.Core.Path.{ap}
+use lib.Dec.{leb}
+use borrow.Author.Needs.{needs}
+use Rattle.change.proofs.fills_head.Statement.{statement}
+use Rattle.change.proofs.fills_head.Tie as tie
+
+returns : tie.Need-returns
+returns c = search needs
+
+add-result : tie.Need-add-result
+add-result c = search needs
+
+returns-2 : tie.Need-returns-2
+returns-2 c = rw (c .before .if1 .left) (ap (leb (c .before .before .args .g .head)) (add-one (c .before .before .args .entries)))
+
+pub fills-head-spec : {M : Type 1} → statement M
+fills-head-spec = tie.close (tie.spec returns add-result returns-2)

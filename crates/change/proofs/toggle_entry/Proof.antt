@@ -1,0 +1,41 @@
+-- `toggle_entry` takes the pair's own entry out of the head, or puts the entry in. Assumes nothing.
+use Rattle.change.specs.Change.{toggledBehind}
+use native.Mathlib.Omega.{arith}
+use borrow.Author.Needs.{needs}
+use Rattle.change.proofs.toggle_entry.Statement.{statement}
+use Rattle.change.proofs.toggle_entry.Tie as tie
+
+sub-remove-entry : tie.Need-sub-remove-entry
+sub-remove-entry c = omega (arith, c .before .before .before .pre .some)
+
+remove-entry-requires : tie.Need-remove-entry-requires
+remove-entry-requires c κs = (omega (arith, c .before .before .before .pre .some, c .before .before .before .pre .within), (omega (arith, c .before .before .before .pre .more), c .before .before .before .pre .small))
+
+add-entry-requires : tie.Need-add-entry-requires
+add-entry-requires c κs = (c .before .before .before .pre .within, (c .before .before .before .pre .more, c .before .before .before .pre .small))
+
+same-length : tie.Need-same-length
+same-length c = search needs
+
+returns : tie.Need-returns
+unfolding toggledBehind
+returns c = rw (c .before .before .before .before .if1 .taken) (c .before .before .remove-entry .ensures)
+
+same-length-2 : tie.Need-same-length-2
+same-length-2 c = search needs
+
+returns-2 : tie.Need-returns-2
+unfolding toggledBehind
+returns-2 c = rw (c .before .before .before .before .if1 .left) (c .before .before .add-entry .ensures)
+
+pub toggle-entry-spec : {M : Type 1} → statement M
+toggle-entry-spec =
+    tie.close
+    (tie.spec
+    sub-remove-entry
+    remove-entry-requires
+    add-entry-requires
+    same-length
+    returns
+    same-length-2
+    returns-2)
