@@ -6,4 +6,5 @@ pub mod Ask
 pub mod Check
 pub mod List
 pub mod Format
+pub mod Edit
 pub mod Unique

@@ -8,6 +8,15 @@ ghost use Rattle.index.specs.Ask.{askReply, askOf};
 ghost use Rattle.index.specs.Check.{checkReply, checkOf};
 ghost use Rattle.index.specs.List.{listReply, listOf};
 ghost use Rattle.index.specs.Format.{formatReply, formatOf};
+ghost use Rattle.index.specs.Edit.{editReply, putOf, dropOf, editOf, putFound, dropFound, OpensBoth, answerFor};
+ghost use Rattle.geometry.specs.Places.{workWords};
+ghost use Rattle.geometry.specs.Lent.{Lent};
+ghost use Rattle.walk.specs.Walk.{walked};
+ghost use Rattle.walk.specs.declared.Walked.the-variants.{Found};
+ghost use mathlib.Core.List.{[], _∷_};
+use change::Outcome;
+use change::Report;
+use entries::Entry;
 use geometry::Geometry;
 use geometry::Plan;
 use listing::list_pairs;
@@ -100,6 +109,175 @@ pub fn list(store: &[u32], first: Pair, second: Pair, out: &mut [u32]) -> Shown
             Shown::Pairs(listed.pairs, listed.mark)
         }
     }
+}
+
+// What put and drop answer: live pairs, the deepest level merged into and the pages written, or the reply's number in words.
+pub enum Edited {
+    Done(u32, u32, u32),
+    Range,
+    Length,
+    Fault(u32),
+    Held,
+    Missing,
+    Full,
+}
+
+// The answer, with the index entries in each level beside it.
+pub struct Changed {
+    pub answer: Edited,
+    pub entries: [u32; 4],
+}
+
+// From now on this badge may call this floor.
+pub fn put(store: &mut [u32], work: &mut [u32], pair: Pair) -> Changed
+    ensures { λ r. ⌜ editReply (r .answer) (r .entries) (now (store .exit)) (now (work .exit)) ≡ putOf (now (store .entry)) (now (work .entry)) pair ⌝ }
+{
+    edit(store, work, Entry { pair, normal: true })
+}
+
+// From now on it may not.
+pub fn drop(store: &mut [u32], work: &mut [u32], pair: Pair) -> Changed
+    ensures { λ r. ⌜ editReply (r .answer) (r .entries) (now (store .exit)) (now (work .exit)) ≡ dropOf (now (store .entry)) (now (work .entry)) pair ⌝ }
+{
+    edit(
+        store,
+        work,
+        Entry {
+            pair,
+            normal: false,
+        },
+    )
+}
+
+// A put, whose entry is normal, or a drop, whose entry is a filter.
+fn edit(store: &mut [u32], work: &mut [u32], entry: Entry) -> Changed
+    ensures { λ r. ⌜ editReply (r .answer) (r .entries) (now (store .exit)) (now (work .exit)) ≡ editOf (now (store .entry)) (now (work .entry)) (entry .normal) (entry .pair) ⌝ }
+{
+    let opened = open_both(store, work);
+    let reply = opened.reply;
+    if reply == 1 {
+        return unchanged(Edited::Range);
+    }
+    if reply != 0 {
+        return unchanged(Edited::Length);
+    }
+    let geometry = opened.geometry;
+    let plan = opened.plan;
+    let pair = entry.pair;
+    match walk::walk_down(store, geometry, plan, pair) {
+        Walked::Fault(level) => unchanged(Edited::Fault(level)),
+        Walked::Found(held, level) => {
+            if entry.normal {
+                return put_found(store, work, geometry, plan, pair, held, level);
+            }
+            drop_found(store, work, geometry, plan, pair, held, level)
+        }
+    }
+}
+
+// Put of a pair that was found held or not, decided by a level.
+fn put_found(
+    store: &mut [u32],
+    work: &mut [u32],
+    g: Geometry,
+    plan: Plan,
+    pair: Pair,
+    held: bool,
+    level: u32,
+) -> Changed
+    requires { ⌜ Lent g plan (now store) ⌝ }
+    requires { ⌜ length (now work) ≡ workWords g ⌝ }
+    requires { ⌜ g ≡ geometryOf (now store) ⌝ }
+    requires { ⌜ walked g (now store) pair ≡ Found held level ⌝ }
+    ensures { λ r. ⌜ editReply (r .answer) (r .entries) (now (store .exit)) (now (work .exit)) ≡ putFound (now (store .entry)) (now (work .entry)) pair held level ⌝ }
+{
+    if held {
+        return unchanged(Edited::Held);
+    }
+    let bottom = (g.levels - 1) as usize;
+    let most = plan.capacities[bottom];
+    if most <= store[geometry::LIVE] {
+        return unchanged(Edited::Full);
+    }
+    told(change::change(store, work, g, plan, Entry { pair, normal: true }, level))
+}
+
+// Drop of a pair that was found held or not, decided by a level.
+fn drop_found(
+    store: &mut [u32],
+    work: &mut [u32],
+    g: Geometry,
+    plan: Plan,
+    pair: Pair,
+    held: bool,
+    level: u32,
+) -> Changed
+    requires { ⌜ Lent g plan (now store) ⌝ }
+    requires { ⌜ length (now work) ≡ workWords g ⌝ }
+    requires { ⌜ g ≡ geometryOf (now store) ⌝ }
+    requires { ⌜ walked g (now store) pair ≡ Found held level ⌝ }
+    ensures { λ r. ⌜ editReply (r .answer) (r .entries) (now (store .exit)) (now (work .exit)) ≡ dropFound (now (store .entry)) (now (work .entry)) pair held level ⌝ }
+{
+    if !held {
+        return unchanged(Edited::Missing);
+    }
+    if store[geometry::LIVE] == 0 {
+        return unchanged(Edited::Fault(g.levels));
+    }
+    told(change::change(
+        store,
+        work,
+        g,
+        plan,
+        Entry {
+            pair,
+            normal: false,
+        },
+        level,
+    ))
+}
+
+// The answer of a change.
+fn told(report: Report) -> Changed
+    ensures { λ r. ⌜ (r .answer ≡ answerFor (report .outcome)) × (r .entries ≡ report .entries) ⌝ }
+{
+    let entries = report.entries;
+    let outcome = report.outcome;
+    match outcome {
+        Outcome::Done(live, deepest, pages) => Changed {
+            answer: Edited::Done(live, deepest, pages),
+            entries,
+        },
+        Outcome::Fault(level) => Changed {
+            answer: Edited::Fault(level),
+            entries,
+        },
+    }
+}
+
+// An answer of a call that changed nothing.
+fn unchanged(answer: Edited) -> Changed
+    ensures { λ r. ⌜ (r .answer ≡ answer) × (r .entries ≡ 0 ∷ 0 ∷ 0 ∷ 0 ∷ []) ⌝ }
+{
+    Changed {
+        answer,
+        entries: [0; 4],
+    }
+}
+
+// The store's opening tests, and then the work area's length.
+fn open_both(store: &[u32], work: &[u32]) -> Opened
+    ensures { λ r. ⌜ OpensBoth (now (store .entry)) (now (work .entry)) r ⌝ }
+{
+    let opened = open_store(store);
+    if opened.reply != 0 {
+        return opened;
+    }
+    let plan = opened.plan;
+    if work.len() != plan.work_words as usize {
+        return refused(5);
+    }
+    opened
 }
 
 // What format answers: that the store is made, or the reply's number in words.

@@ -1,49 +1,36 @@
-use mathlib.Core.Path.{_≡_, refl, sym, ap, _∙_}
+-- `format` refuses numbers out of range and then a wrong length, or makes the store of the empty set. Assumes nothing.
+use mathlib.Core.Path.{sym, _∙_}
 use denote.Ref.{now}
 use borrow.Author.Tests.{eq-eqb, ne-eqb}
 use Rattle.laws.specs.Tests.{told-no, told-past}
 use Rattle.geometry.specs.Bounds.{in-range}
 use Rattle.geometry.specs.Lent.{lent, plan-words}
 use Rattle.index.specs.Format.{format-range, format-length, format-done}
-use native.Mathlib.Omega.{arith}
 use borrow.Author.Needs.{needs}
 use Rattle.index.proofs.format.Statement.{statement}
 use Rattle.index.proofs.format.Tie as tie
-use Rattle.index.proofs.format.Reads as reads
-use Rattle.index.proofs.format.Lts as lts
-use Rattle.format.proofs.format_store.Reads as format-store-reads
-use Rattle.geometry.proofs.in_range.Reads as in-range-reads
-use Rattle.geometry.proofs.plan_for.Reads as plan-for-reads
 
--- src/lib.rt:116:9
 in-range-requires : tie.Need-in-range-requires
 in-range-requires c κs = search needs
 
--- src/lib.rt:117:9
 returns : tie.Need-returns
 returns c = format-range (now (c .before .before .before .args .store)) (c .before .before .before .args .g) (told-no _ _ (c .before .in-range .ensures) (c .if1 .taken))
 
--- src/lib.rt:119:9
 plan-for-requires : tie.Need-plan-for-requires
 plan-for-requires c κs = in-range (c .before .before .before .args .g) (told-past _ _ (c .before .in-range .ensures) (c .if1 .left))
 
--- src/lib.rt:120:23
 cast-if2 : tie.Need-cast-if2
 cast-if2 c = search needs
 
--- src/lib.rt:121:9
 returns-2 : tie.Need-returns-2
 returns-2 c = format-length (now (c .before .before .before .before .before .before .args .store)) (c .before .before .before .before .before .before .args .g) (told-past _ _ (c .before .before .before .before .in-range .ensures) (c .before .before .before .if1 .left)) (ne-eqb _ _ (λ e. (c .if2 .taken) (e ∙ sym (plan-words (c .before .before .plan-for .result) (c .before .before .before .before .before .before .args .g) (c .before .before .plan-for .ensures .0)))))
 
--- src/lib.rt:123:5
 format-store-requires : tie.Need-format-store-requires
 format-store-requires c κs = lent (c .before .before .before .before .before .before .before .args .g) (c .before .before .before .plan-for .result) (now (c .before .before .before .before .before .before .before .args .store)) (in-range (c .before .before .before .before .before .before .before .args .g) (told-past _ _ (c .before .before .before .before .before .in-range .ensures) (c .before .before .before .before .if1 .left))) (c .before .before .before .plan-for .ensures .0) ((c .before .if2 .left) ∙ plan-words (c .before .before .before .plan-for .result) (c .before .before .before .before .before .before .before .args .g) (c .before .before .before .plan-for .ensures .0))
 
--- src/lib.rt:113:1
 same-length : tie.Need-same-length
 same-length c = search needs
 
--- src/lib.rt:113:1
 returns-3 : tie.Need-returns-3
 returns-3 c = rw (c .before .before .format-store .ensures) (format-done (now (c .before .before .before .before .before .before .before .before .before .before .args .store)) (c .before .before .before .before .before .before .before .before .before .before .args .g) (told-past _ _ (c .before .before .before .before .before .before .before .before .in-range .ensures) (c .before .before .before .before .before .before .before .if1 .left)) (eq-eqb _ _ ((c .before .before .before .before .if2 .left) ∙ plan-words (c .before .before .before .before .before .before .plan-for .result) (c .before .before .before .before .before .before .before .before .before .before .args .g) (c .before .before .before .before .before .before .plan-for .ensures .0))))
 
