@@ -191,12 +191,13 @@ fn put_found(
     requires { ⌜ walked g (now store) pair ≡ Found held level ⌝ }
     ensures { λ r. ⌜ editReply (r .answer) (r .entries) (now (store .exit)) (now (work .exit)) ≡ putFound (now (store .entry)) (now (work .entry)) pair held level ⌝ }
 {
+    let bottom = (g.levels - 1) as usize;
+    let most = plan.capacities[bottom];
+    let live = store[geometry::LIVE];
     if held {
         return unchanged(Edited::Held);
     }
-    let bottom = (g.levels - 1) as usize;
-    let most = plan.capacities[bottom];
-    if most <= store[geometry::LIVE] {
+    if most <= live {
         return unchanged(Edited::Full);
     }
     told(change::change(store, work, g, plan, Entry { pair, normal: true }, level))
