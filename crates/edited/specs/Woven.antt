@@ -16,7 +16,7 @@ use Rattle.rules.specs.Finding.{Met, absent, met, find}
 use Rattle.rules.specs.Merging.{toggle}
 use Rattle.rules.specs.Sound.{inOrder, ascending}
 use Rattle.entries.specs.Ascending.{From, from-ascending, from-lower, find-here, find-on, find-above}
-use Rattle.good.specs.Rising.{Compared, earlier, equal, later, compared}
+use Rattle.good.specs.Comparing.{Compared, earlier, equal, later, compared}
 use Rattle.good.specs.Toggle.{toggle-cancels, toggle-after, toggle-front}
 use Rattle.edited.specs.Reach.{reach, reach-none, reach-on, reach-past, order-rest}
 

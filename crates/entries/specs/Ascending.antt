@@ -7,7 +7,7 @@ use mathlib.Core.List.{List, [], _∷_}
 use Rattle.laws.specs.Lists.{all}
 use Rattle.slot.specs.declared.Pair.{Pair}
 use Rattle.slot.specs.Pair.{rank, before, same}
-use Rattle.slot.specs.Order.{before-below, apart-not-same}
+use Rattle.slot.specs.Order.{before-below, below-before, apart-not-same}
 use Rattle.rules.specs.Tree.{Entry, Level, Tree, rankOf}
 use Rattle.rules.specs.Finding.{Met, absent, met, find, held}
 use Rattle.rules.specs.Sound.{ascending, treeOf}
@@ -51,6 +51,14 @@ all-from-ascending [] a = tt
 all-from-ascending (es ∷ t) a =
     let told = chain-first (ascending es) (all ascending t) a in
     (from-ascending es (told .0), all-from-ascending t (told .1))
+
+-- And back: a level whose ranks rise ascends.
+pub ascending-from : (n : ℕ) (es : Level) → From n es → ascending es ≡ true
+unfolding From ascending
+ascending-from n [] a = refl
+ascending-from n (e ∷ []) a = refl
+ascending-from n (e ∷ f ∷ es) a =
+    rw (below-before (e .pair) (f .pair) (a .1 .0), ascending) (ascending-from (suc (rankOf e)) (f ∷ es) (a .1))
 
 -- What rises from n on rises from any lower number on.
 pub from-lower : (m n : ℕ) (es : Level) → m ≤ n → From n es → From m es

@@ -21,7 +21,7 @@ use Rattle.rules.specs.Finding.{normalKind}
 use Rattle.rules.specs.Store.{runWords, levelWords}
 use Rattle.rules.specs.Sound.{pagesOf, headSlots, levelSlots, entriesOf, firstAt, treeOf, pagesRight, directoryRight, follows, inOrder, legal, fencePages, firstIsLeast, headRight, pageFormed, ascending, levelLaid, withinCapacity, levelSound, headSound, Fault, sound, faultAt, levelsFault, acrossFault, else, fault}
 use Rattle.entries.specs.Levels.{PagesWithin}
-use Rattle.entries.specs.Ascending.{From, from-lower, levelsAscend, chain-first}
+use Rattle.entries.specs.Ascending.{From, from-lower, ascending-from, levelsAscend, chain-first}
 
 -- The directory's page counts -----------------------------------------------------------------------------------------------------------------
 
@@ -78,14 +78,7 @@ order-from s (u ∷ us) e =
     let told = chain-first (follows s u) (inOrder (u ∷ us)) e in
     entries-on (bound s) u us (follows-bound s u (told .0)) (order-from u us (told .1))
 
-ascending-from : (n : ℕ) (es : Level) → From n es → ascending es ≡ true
-unfolding From ascending
-ascending-from n [] a = refl
-ascending-from n (e ∷ []) a = refl
-ascending-from n (e ∷ f ∷ es) a =
-    ap (λ (b : Bool). elim b [ true ↦ ascending (f ∷ es) | false ↦ false ]) (below-before (e .pair) (f .pair) (a .1 .0)) ∙ ascending-from (suc (rankOf e)) (f ∷ es) (a .1)
-
-pub order-ascends : (ss : List Slot) → inOrder ss ≡ true → ascending (entriesOf ss) ≡ true
+order-ascends : (ss : List Slot) → inOrder ss ≡ true → ascending (entriesOf ss) ≡ true
 unfolding entriesOf ascending
 order-ascends [] e = refl
 order-ascends (s ∷ ss) e = ascending-from 0 (entriesOf (s ∷ ss)) (entries-on 0 s ss (omega arith) (order-from s ss e))

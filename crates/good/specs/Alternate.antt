@@ -16,7 +16,7 @@ use Rattle.rules.specs.Finding.{Met, absent, met, find, held}
 use Rattle.rules.specs.Merging.{toggle, join}
 use Rattle.rules.specs.Sound.{alternating}
 use Rattle.entries.specs.Ascending.{From, from-lower, find-here, find-on, find-above, held-met, held-absent, held-agree}
-use Rattle.good.specs.Rising.{Compared, earlier, equal, later, compared}
+use Rattle.good.specs.Comparing.{Compared, earlier, equal, later, compared}
 use Rattle.good.specs.Toggle.{toggle-before, toggle-cancels, toggle-after, cancel, find-nothing}
 use Rattle.good.specs.Join.{join-from, find-join, find-join-lower}
 

@@ -14,8 +14,7 @@ use Rattle.rules.specs.Finding.{find}
 use Rattle.rules.specs.Merging.{toggle, join}
 use Rattle.rules.specs.Sound.{ascending}
 use Rattle.rules.specs.Good.{LevelFits}
-use Rattle.entries.specs.Ascending.{From, from-ascending, from-lower, find-here, find-on, find-above}
-use Rattle.good.specs.Rising.{ascending-from}
+use Rattle.entries.specs.Ascending.{From, from-ascending, from-lower, find-here, find-on, find-above, ascending-from}
 use Rattle.good.specs.Toggle.{toggle-cancels, toggle-after, toggle-front, toggle-from, toggle-fits, toggle-length, cancel, find-nothing, find-other, above-same, find-toggle}
 
 -- The result rises from where both do, so it ascends.

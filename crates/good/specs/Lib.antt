@@ -3,7 +3,7 @@
 --   Pages       the slots and pages that a level takes
 --   Fitting     slots whose parts are words
 --   Room        the page rooms suffice
---   Rising      pairs compared three ways; levels that ascend, as a test and as bounds on ranks
+--   Comparing   pairs compared three ways
 --   Toggle      an entry toggled into a level
 --   Join        two levels joined
 --   Alternate   entries that alternate in kind
@@ -19,7 +19,7 @@
 pub mod Pages
 pub mod Fitting
 pub mod Room
-pub mod Rising
+pub mod Comparing
 pub mod Toggle
 pub mod Join
 pub mod Alternate

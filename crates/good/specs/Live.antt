@@ -16,7 +16,7 @@ use Rattle.rules.specs.Merging.{toggle, join}
 use Rattle.rules.specs.Sound.{alternating, countKind, liveRight}
 use Rattle.entries.specs.Ascending.{From, AllFrom, find-here, find-on, held-met, held-agree}
 use Rattle.entries.specs.Counts.{kindCount, count-none, count-normal, count-filter, count-joined, count-first, count-levels, count-no-levels}
-use Rattle.good.specs.Rising.{Compared, earlier, equal, later, compared}
+use Rattle.good.specs.Comparing.{Compared, earlier, equal, later, compared}
 use Rattle.good.specs.Toggle.{toggle-before, toggle-cancels, toggle-after}
 use Rattle.good.specs.Join.{join-from, find-join-lower}
 use Rattle.good.specs.Alternate.{Over, alternating-over, alternating-below, turned, join-over, joined-held}

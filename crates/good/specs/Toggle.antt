@@ -14,8 +14,8 @@ use Rattle.rules.specs.Finding.{Met, absent, met, find}
 use Rattle.rules.specs.Merging.{toggle}
 use Rattle.rules.specs.Sound.{ascending}
 use Rattle.rules.specs.Good.{LevelFits}
-use Rattle.entries.specs.Ascending.{From, from-ascending, from-lower, find-here, find-on, find-above}
-use Rattle.good.specs.Rising.{Compared, earlier, equal, later, compared, ascending-from}
+use Rattle.entries.specs.Ascending.{From, from-ascending, from-lower, find-here, find-on, find-above, ascending-from}
+use Rattle.good.specs.Comparing.{Compared, earlier, equal, later, compared}
 
 -- Where the entry comes to stand: before the first entry, in place of none with it, or further on.
 module _ (e f : Entry) (fs : Level) where

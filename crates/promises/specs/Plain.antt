@@ -11,7 +11,7 @@ use Rattle.slot.specs.declared.Pair.{Pair}
 use Rattle.slot.specs.Pair.{rank, before, same, Words, rank-same}
 use Rattle.slot.specs.Order.{before-below, same-level, above-not-before, level-same, apart-not-same}
 use Rattle.rules.specs.Listing.{insert}
-use Rattle.good.specs.Rising.{Compared, earlier, equal, later, compared}
+use Rattle.good.specs.Comparing.{Compared, earlier, equal, later, compared}
 
 -- Whether a pair is in it, and the set with a pair put in (insert) or taken out.
 unfoldable pub has : Pair → List Pair → Bool

@@ -1,6 +1,6 @@
 -- Whether the head and each level are their writing, in the order of reading: what is decided (Written); the writing as a stream (Stream);
 -- a run of slots and a level's pages in words (Run, Pages); a row of slots and the walk over it (Row, Position); the tests of words and
--- pages (Tested); that the tests decide it (Decided); that this is what the whole-store test asks (Order, Parts); and that the places lie
+-- pages (Tested); that the tests decide it (Decided); that this is what the whole-store test asks (Parts); and that the places lie
 -- inside a store (Inside).
 pub mod Written
 pub mod Stream
@@ -10,6 +10,5 @@ pub mod Row
 pub mod Position
 pub mod Tested
 pub mod Decided
-pub mod Order
 pub mod Parts
 pub mod Inside

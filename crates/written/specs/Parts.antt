@@ -19,8 +19,8 @@ use Rattle.rules.specs.Tree.{Level}
 use Rattle.rules.specs.Level.{index, fences, place, weave, paged}
 use Rattle.rules.specs.Store.{runWords}
 use Rattle.rules.specs.Sound.{pagesOf, slotsFrom, headSlots, countAt, pageSlots, levelSlots, entriesOf, firstAt, legal, inOrder, fencePages, firstIsLeast, headRight, pageFormed, ascending, levelLaid, withinCapacity, levelSound, headSound}
+use Rattle.entries.specs.Ready.{head-ascends}
 use Rattle.written.specs.Written.{firstPair, laidOver, countOf, pageRun, levelRun, levelWritten, headWritten}
-use Rattle.written.specs.Order.{in-order-ascends}
 
 -- The places of a level's words by its geometry are those by its start.
 slot-place : (g : Geometry) (i p : ℕ) → slotPlace g i p 0 ≡ levelStart g i + 64 * p + 1
@@ -97,12 +97,6 @@ count-fits : (a b c d e f : Bool) → (a && b && c && d && e && f) ≡ true → 
 count-fits true b c d e f h = refl
 count-fits false b c d e f h = h
 
-slots-ordered : (a b c d e f : Bool) → (a && b && c && d && e && f) ≡ true → c ≡ true
-slots-ordered true true true d e f h = refl
-slots-ordered true true false d e f h = h
-slots-ordered true false c d e f h = cc
-slots-ordered false b c d e f h = cc
-
 pub head-fits : (g : Geometry) (w : List ℕ) → headRight g w ≡ true → getD w headCountWord 0 ≤ headRoom g
 unfolding headRight
 head-fits g w e = leb-true _ _ (count-fits (leb (getD w headCountWord 0) (headRoom g)) _ _ _ _ _ e)
@@ -112,14 +106,6 @@ unfolding headSlots
 head-own g w e =
     let m : min (getD w headCountWord 0) (headRoom g) ≡ getD w headCountWord 0 = omega (arith, head-fits g w e) in
     rw m refl
-
-head-ascends : (g : Geometry) (w : List ℕ) → headRight g w ≡ true → ascending (entriesOf (headSlots g w)) ≡ true
-unfolding headRight
-head-ascends g w e =
-    let ss = headSlots g w in
-    in-order-ascends ss
-    (slots-ordered (leb (getD w headCountWord 0) (headRoom g)) (ltb (length (entriesOf ss)) (g .head)) (inOrder ss) (all (legal false (pagesOf g w 1)) ss)
-    (equal (fencePages ss) (span (λ p. p) 0 (pagesOf g w 1))) (firstIsLeast ss) e)
 
 pub head-sound-parts : (g : Geometry) (w : List ℕ) → headSound g w ≡
     (headRight g w && headWritten w headStart (headRoom g) (getD w headCountWord 0) (levelStart g 1) (pagesOf g w 1))
