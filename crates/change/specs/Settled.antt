@@ -40,7 +40,8 @@ use Rattle.edited.specs.Written.{added-written}
 use Rattle.merge.specs.Filling.{Outcome, outcome, settled, Settleable}
 use Rattle.merge.specs.Laid.{within-laid}
 use Rattle.merge.specs.Settled.{Settles, settledTo, settles}
-use Rattle.promises.specs.Written.{sound-good, good-fits, good-reads, good-walks}
+use Rattle.good.specs.Cascade.{good-fits}
+use Rattle.promises.specs.Written.{sound-good, good-reads, good-walks}
 use Rattle.change.specs.declared.Report.{Report}
 use Rattle.change.specs.Change.{liveAfter, toggledBehind, editedBehind, headEdited, fillsHead, Changed, changedTree, mergedChange, told, doneOn, merge-goes-on}
 use Rattle.change.specs.Head.{Accepted, accepted-directory, accepted-head, accepted-editable, head-has-room, added-fits, edited-lent}
@@ -153,7 +154,7 @@ module _ (g : Geometry) (plan : Plan) (w v : List ℕ) (p : Pair) (normal : Bool
   unfolding headEdited editedBehind toggledBehind stateOf
   edited-written =
       ap (λ (v : List ℕ). set (entryAdded e (reach p (headSlots g v)) v) liveWord live) (written-good .0) ∙
-      added-written g s e live fit (good-fits g s fit good) (good .ascends) head-absent roomy
+      added-written g s e live fit (good-fits g fit s good) (good .ascends) head-absent roomy
     where
       roomy : suc (length (getD (slotsOf t) 0 [])) ≤ headRoom g
       roomy =
@@ -191,7 +192,7 @@ module _ (g : Geometry) (plan : Plan) (w v : List ℕ) (p : Pair) (normal : Bool
   anew-ready = (
     edited-lent g plan w e (anew .level) lends (anew .accepted) behind false v edits,
     rw begins
-        (record { asked = head-settles .asked; within = rw (head-settles .told) (within-laid g live fit (slotsOf (ended .tree)) (good-fits g ended fit ended-good)) }),
+        (record { asked = head-settles .asked; within = rw (head-settles .told) (within-laid g live fit (slotsOf (ended .tree)) (good-fits g fit ended ended-good)) }),
   )
 
   pub anew-settled : (work : List ℕ) → settledChange g v work ≡ mergedChange g e w work

@@ -14,7 +14,9 @@ use Rattle.rules.specs.Tree.{Tree, level}
 use Rattle.rules.specs.Finding.{held}
 use Rattle.rules.specs.Merging.{State, join, merge}
 use Rattle.rules.specs.Sound.{withinCapacity}
-use Rattle.rules.specs.Good.{Good, Cascading, Roomy}
+use Rattle.rules.specs.Level.{slotsOf}
+use Rattle.rules.specs.Good.{Good, Cascading, Roomy, Fits}
+use Rattle.good.specs.Room.{roomy-fits}
 use Rattle.good.specs.Join.{join-length}
 use Rattle.good.specs.Live.{Counted, right-counted, counted-right}
 use Rattle.good.specs.Merge.{merge-length, merge-above, merge-here, merge-below, merge-fits, merge-ascends, merge-alternates, merge-counted, merge-holds, merge-last}
@@ -89,7 +91,7 @@ module _ (g : Geometry) (fit : InRange g) where
   capacity-total zero = omega arith
   capacity-total (suc i) = omega arith
 
-  pub cascading-roomy : (i : ℕ) (s : State) → Cascading g i s → Roomy g (s .tree)
+  cascading-roomy : (i : ℕ) (s : State) → Cascading g i s → Roomy g (s .tree)
   cascading-roomy i s c = record { levels = c .levels; upper = λ j h. upper j h (stands j i); lowest = lowest (stands (bottom g) i) }
     where
       size : ℕ → ℕ
@@ -152,5 +154,9 @@ module _ (g : Geometry) (fit : InRange g) where
     fit = good .fit;
   }
 
-  pub good-roomy : (s : State) → Good g s → Roomy g (s .tree)
-  good-roomy s good = cascading-roomy 0 s (good-cascading s good)
+  -- So the slots fit their rooms, wherever a cascade has come to, and in a good state.
+  pub cascading-fits : (i : ℕ) (s : State) → Cascading g i s → Fits g (slotsOf (s .tree))
+  cascading-fits i s c = roomy-fits g fit (s .tree) (cascading-roomy i s c) (c .fit)
+
+  pub good-fits : (s : State) → Good g s → Fits g (slotsOf (s .tree))
+  good-fits s good = cascading-fits 0 s (good-cascading s good)

@@ -17,8 +17,7 @@ use Rattle.rules.specs.Store.{laidOut, writing}
 use Rattle.rules.specs.Sound.{ascending}
 use Rattle.rules.specs.Good.{Fits, Cascading}
 use Rattle.entries.specs.Levels.{PagesWithin}
-use Rattle.good.specs.Room.{roomy-fits}
-use Rattle.good.specs.Cascade.{mergedState, merged-cascading, cascading-roomy}
+use Rattle.good.specs.Cascade.{mergedState, merged-cascading, cascading-fits}
 use Rattle.merge.specs.Filling.{Outcome, outcome, after, roomAt, mergedPages, merged, settled, Settleable}
 use Rattle.merge.specs.Laid.{within-laid}
 use Rattle.merge.specs.Merged.{entries-laid, Merges, merged-laid}
@@ -32,17 +31,13 @@ pub record Settles (g : Geometry) (n i : ℕ) (s : State) : Type 0 where
   pub told : settled g n i (writing g s) ≡ settledTo g (s .live) (settle g n i (s .tree))
 
 module _ (g : Geometry) (fit : InRange g) where
-  -- Wherever a cascade has come to, the slots fit their rooms.
-  pub cascading-fits : (i : ℕ) (s : State) → Cascading g i s → Fits g (slotsOf (s .tree))
-  cascading-fits i s c = roomy-fits g fit (s .tree) (cascading-roomy g fit i s c) (c .fit)
-
   room-told : (i : ℕ) (s : State) → Cascading g i s → roomAt g (writing g s) i ≡ ltb (length (level i (s .tree))) (capacity g i)
   unfolding roomAt writing
-  room-told i s c = rw (entries-laid g (s .live) fit (s .tree) (cascading-fits i s c) i (c .reaches)) refl
+  room-told i s c = rw (entries-laid g (s .live) fit (s .tree) (cascading-fits g fit i s c) i (c .reaches)) refl
 
   within : (i : ℕ) (s : State) → Cascading g i s → PagesWithin g (writing g s)
   unfolding writing
-  within i s c = within-laid g (s .live) fit (slotsOf (s .tree)) (cascading-fits i s c)
+  within i s c = within-laid g (s .live) fit (slotsOf (s .tree)) (cascading-fits g fit i s c)
 
   -- A level that has room stays, and any other is merged on.
   stays : (n i : ℕ) (s : State) → Cascading g i s → ltb (length (level i (s .tree))) (capacity g i) ≡ true → Settles g (suc n) i s
@@ -55,7 +50,7 @@ module _ (g : Geometry) (fit : InRange g) where
   merges i s c h =
       let next = merged-cascading g fit i s c h in
       let ascends : (j : ℕ) → j < g .levels → ascending (level j (s .tree)) ≡ true = λ j b. all-at ascending (s .tree) j [] (c .ascends) (omega (arith, b, c .levels)) in
-      merged-laid g (s .live) fit i (s .tree) (omega (arith, h)) (cascading-fits i s c) (cascading-fits (suc i) (mergedState i s) next) (ascends i (c .reaches)) (ascends (suc i) (omega (arith, h)))
+      merged-laid g (s .live) fit i (s .tree) (omega (arith, h)) (cascading-fits g fit i s c) (cascading-fits g fit (suc i) (mergedState i s) next) (ascends i (c .reaches)) (ascends (suc i) (omega (arith, h)))
 
   sinks : (n i : ℕ) (s : State) → Cascading g i s → i < bottom g → ltb (length (level i (s .tree))) (capacity g i) ≡ false →
       Settles g n (suc i) (mergedState i s) → Settles g (suc n) i s

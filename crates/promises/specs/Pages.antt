@@ -15,8 +15,7 @@ use Rattle.rules.specs.Tree.{Tree, level}
 use Rattle.rules.specs.Level.{pagesFor, pageOf, slotsOf}
 use Rattle.rules.specs.Merging.{merge, PageWrite, pagesWritten, settle, toggleHead, edit, State, Outcome, refused, done}
 use Rattle.rules.specs.Good.{Fits, Cascading}
-use Rattle.good.specs.Room.{roomy-fits}
-use Rattle.good.specs.Cascade.{mergedState, merged-cascading, cascading-roomy}
+use Rattle.good.specs.Cascade.{mergedState, merged-cascading, cascading-fits}
 use Rattle.good.specs.Settle.{settle-stays, settle-sinks}
 use Rattle.promises.specs.Calls.{ComesTo, refusal, edited}
 
@@ -58,7 +57,7 @@ module _ (g : Geometry) (fit : InRange g) where
       told true h rest = rw (settle-stays g n i t h) (omega arith)
       told false h rest =
           let next = merged-cascading g fit i s c (omega (arith, e)) in
-          let fits : Fits g (slotsOf (merge i t)) = roomy-fits g fit (merge i t) (cascading-roomy g fit (suc i) (mergedState i s) next) (next .fit) in
+          let fits : Fits g (slotsOf (merge i t)) = cascading-fits g fit (suc i) (mergedState i s) next in
           rw (settle-sinks g n i t h)
           (omega (
             arith,

@@ -24,8 +24,7 @@ use Rattle.stored.specs.Sound.{sound-written, written-sound}
 use Rattle.finding.specs.Asked.{decider}
 use Rattle.finding.specs.Formed.{directory-right, head-right, page-formed}
 use Rattle.finding.specs.Walked.{walked-finds}
-use Rattle.good.specs.Room.{roomy-fits}
-use Rattle.good.specs.Cascade.{good-roomy}
+use Rattle.good.specs.Cascade.{good-fits}
 
 -- A store that passes is the writing of the state that its words hold, and that state is good.
 pub sound-good : (g : Geometry) (w : List ℕ) → InRange g → geometryOf w ≡ g → length w ≡ storeWords g → WordsFit w → fault g w ≡ sound →
@@ -33,13 +32,13 @@ pub sound-good : (g : Geometry) (w : List ℕ) → InRange g → geometryOf w �
 sound-good = sound-written
 
 module _ (g : Geometry) (s : State) (fit : InRange g) (good : Good g s) where
-  -- The slots of a good state fit their rooms, so its writing is read as them.
-  pub good-fits : Fits g (slotsOf (s .tree))
-  good-fits = roomy-fits g fit (s .tree) (good-roomy g fit s good) (good .fit)
+  fits : Fits g (slotsOf (s .tree))
+  fits = good-fits g fit s good
 
+  -- The slots of a good state fit their rooms, so its writing is read as them.
   pub good-reads : Reads g (s .live) (slotsOf (s .tree)) (writing g s)
   unfolding writing
-  good-reads = reads-back g (s .live) (slotsOf (s .tree)) fit good-fits
+  good-reads = reads-back g (s .live) (slotsOf (s .tree)) fit fits
 
   -- The writing has the store's length, and its words hold the geometry, the tree and the state.
   pub good-length : length (writing g s) ≡ storeWords g
@@ -50,7 +49,7 @@ module _ (g : Geometry) (s : State) (fit : InRange g) (good : Good g s) where
 
   pub good-tree : treeOf g (writing g s) ≡ s .tree
   unfolding writing
-  good-tree = tree-back g (s .live) (s .tree) fit good-fits
+  good-tree = tree-back g (s .live) (s .tree) fit fits
 
   pub good-state : stateOf g (writing g s) ≡ s
   unfolding stateOf
@@ -59,9 +58,9 @@ module _ (g : Geometry) (s : State) (fit : InRange g) (good : Good g s) where
   -- It passes the whole-store test.
   pub good-sound : fault g (writing g s) ≡ sound
   good-sound =
-      written-sound g s fit good good-fits (directory-right g s (writing g s) fit good good-fits good-reads)
-      (head-right g s (writing g s) fit good good-fits good-reads) (page-formed g s (writing g s) fit good good-fits good-reads) .0
+      written-sound g s fit good fits (directory-right g s (writing g s) fit good fits good-reads)
+      (head-right g s (writing g s) fit good fits good-reads) (page-formed g s (writing g s) fit good fits good-reads) .0
 
   -- The walk on it finds what the tree holds, and the level of the topmost entry.
   pub good-walks : (p : Pair) → walked g (writing g s) p ≡ Found (held p (s .tree)) (decider p (s .tree))
-  good-walks = walked-finds g s (writing g s) fit good good-fits good-reads
+  good-walks = walked-finds g s (writing g s) fit good fits good-reads
