@@ -1,0 +1,151 @@
+-- The paper's section "Numbered replies, in order of test", call by call: the tests as a list in the paper's order, the two late ones included, and
+-- what a refusal gives: its number, zeros but for 6 the level first, and every lent word as it was. Assumes nothing.
+use Prim.Native.Nat.{ℕ, zero, suc}
+use mathlib.Core.Bool.{Bool, true, false, not, cond}
+use mathlib.Core.List.{List, [], _∷_, _++_}
+use lib.ListN.{getD}
+use lib.Dec.{ltb, eqb}
+use Rattle.geometry.specs.declared.Geometry.{Geometry}
+use Rattle.geometry.specs.Geometry.{most}
+use Rattle.geometry.specs.Places.{liveWord}
+use Rattle.slot.specs.declared.Pair.{Pair}
+use Rattle.rules.specs.Listing.{list}
+use Rattle.rules.specs.Store.{emptyStore}
+use Rattle.rules.specs.Sound.{Fault, sound, faultAt, else, geometryOf, treeOf, fault}
+use Rattle.walk.specs.declared.Walked.{Walked}
+use Rattle.walk.specs.declared.Walked.the-variants.{Found, Fault as Fault-of-walk}
+use Rattle.walk.specs.Walk.{walked}
+use Rattle.change.specs.Change.{fillsHead, changeOf}
+use Rattle.index.specs.Reply.{Reply, Test, test}
+use Rattle.index.specs.Opening.{openTests}
+use Rattle.index.specs.List.{Filled, filled, listedReply}
+use Rattle.index.specs.Edit.{Kept, kept, bothTests}
+
+-- What is tested ----------------------------------------------------------------------------------------------------------------------------
+
+-- What the walk gives: its fault or none, whether the pair is held, and the deciding level.
+abbrev pub faultOf : Walked → Fault
+faultOf (Found held level) = sound
+faultOf (Fault-of-walk level) = faultAt level
+
+abbrev pub heldBy : Walked → Bool
+heldBy (Found held level) = held
+heldBy (Fault-of-walk level) = false
+
+abbrev pub decider : Walked → ℕ
+decider (Found held level) = level
+decider (Fault-of-walk level) = 0
+
+module _ (w : List ℕ) where
+  abbrev g : Geometry
+  g = geometryOf w
+
+  abbrev live : ℕ
+  live = getD w liveWord 0
+
+  -- List and check test the whole store.
+  unfoldable pub wholeFault : Fault
+  wholeFault = fault g w
+
+  -- Live pairs below M, for a put; above none, for a drop, else a fault of level l.
+  unfoldable pub belowMost : Bool
+  belowMost = ltb live (most g)
+
+  unfoldable pub noneLiveFault : Fault
+  noneLiveFault = elim (ltb 0 live) [ true ↦ sound | false ↦ faultAt (g .levels) ]
+
+  module _ (p : Pair) where
+    -- Put, drop and ask look at the directory, the head and each page walked.
+    unfoldable pub walkFault : Fault
+    walkFault = faultOf (walked g w p)
+
+    unfoldable pub pairHeld : Bool
+    pairHeld = heldBy (walked g w p)
+
+    -- Put and drop would merge: the head has no entry of the pair to remove, and with one more it has H.
+    unfoldable pub wouldMerge : Bool
+    wouldMerge = fillsHead g w (eqb (decider (walked g w p)) 0)
+
+    -- They test the whole store then.
+    unfoldable pub mergeFault : Fault
+    mergeFault = elim wouldMerge [ true ↦ wholeFault | false ↦ sound ]
+
+-- The order of tests ------------------------------------------------------------------------------------------------------------------------
+
+-- A test of soundness passes where it finds no fault.
+abbrev pub faultless : Fault → Bool
+faultless sound = true
+faultless (faultAt level) = false
+
+unfoldable pub askTests : List ℕ → Pair → List Test
+askTests w p = openTests w ++ test (faultless (walkFault w p)) 6 ∷ []
+
+unfoldable pub checkTests : List ℕ → List Test
+checkTests w = openTests w ++ test (faultless (wholeFault w)) 6 ∷ []
+
+unfoldable pub listTests : List ℕ → List Test
+listTests w = openTests w ++ test (faultless (wholeFault w)) 6 ∷ []
+
+unfoldable pub putTests : List ℕ → List ℕ → Pair → List Test
+putTests w work p =
+    bothTests w work ++
+    test (faultless (walkFault w p)) 6 ∷ test (not (pairHeld w p)) 2 ∷ test (belowMost w) 4 ∷ test (faultless (mergeFault w p)) 6 ∷ []
+
+unfoldable pub dropTests : List ℕ → List ℕ → Pair → List Test
+dropTests w work p =
+    bothTests w work ++
+    test (faultless (walkFault w p)) 6 ∷ test (pairHeld w p) 3 ∷ test (faultless (noneLiveFault w)) 6 ∷ test (faultless (mergeFault w p)) 6 ∷ []
+
+-- The fault whose level 6 tells, in the same order.
+unfoldable pub putFault : List ℕ → Pair → Fault
+putFault w p = else (walkFault w p) (mergeFault w p)
+
+unfoldable pub dropFault : List ℕ → Pair → Fault
+dropFault w p = else (walkFault w p) (else (noneLiveFault w) (mergeFault w p))
+
+-- What is done where every test passes, and what a refusal gives ------------------------------------------------------------------------
+
+abbrev pub levelOf : Fault → ℕ
+levelOf sound = 0
+levelOf (faultAt level) = level
+
+unfoldable pub levelTold : ℕ → Fault → ℕ
+levelTold number f = elim (eqb number 6) [ true ↦ levelOf f | false ↦ 0 ]
+
+unfoldable pub askDone : List ℕ → Pair → Reply
+askDone w p = record { number = 0; values = cond (pairHeld w p) 1 0 ∷ decider (walked (geometryOf w) w p) ∷ [] }
+
+unfoldable pub askRefused : List ℕ → Pair → ℕ → Reply
+askRefused w p n = record { number = n; values = levelTold n (walkFault w p) ∷ 0 ∷ [] }
+
+unfoldable pub checkDone : Reply
+checkDone = record { number = 0; values = 0 ∷ [] }
+
+unfoldable pub checkRefused : List ℕ → ℕ → Reply
+checkRefused w n = record { number = n; values = levelTold n (wholeFault w) ∷ [] }
+
+unfoldable pub listDone : List ℕ → Pair → Pair → List ℕ → Filled
+listDone w first second slice = listedReply (list first second (treeOf (geometryOf w) w) slice)
+
+unfoldable pub listRefused : List ℕ → List ℕ → ℕ → Filled
+listRefused w slice n = filled n (levelTold n (wholeFault w) ∷ 0 ∷ []) slice
+
+unfoldable pub formatDone : Geometry → Filled
+formatDone g = filled 0 (0 ∷ []) (emptyStore g)
+
+unfoldable pub formatRefused : List ℕ → ℕ → Filled
+formatRefused w n = filled n (0 ∷ []) w
+
+-- A put adds a normal entry, a drop a filter.
+unfoldable pub editDone : List ℕ → List ℕ → Bool → Pair → Kept
+editDone w work normal p =
+    let c = changeOf (geometryOf w) (record { pair = p; normal = normal }) (eqb (decider (walked (geometryOf w) w p)) 0) w work in
+    kept 0 (c .values) (c .store) (c .work)
+
+unfoldable pub editRefused : List ℕ → List ℕ → Fault → ℕ → Kept
+editRefused w work f n = kept n (levelTold n f ∷ 0 ∷ 0 ∷ 0 ∷ 0 ∷ 0 ∷ 0 ∷ []) w work
+
+-- What a call gives, by the number of the first test that fails.
+abbrev pub byFirst : {A : Type 0} → ℕ → A → (ℕ → A) → A
+byFirst zero done refused = done
+byFirst (suc n) done refused = refused (suc n)
