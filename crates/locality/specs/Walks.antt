@@ -1,0 +1,57 @@
+-- The walks of two stores that agree on the directory, the head and the pages that one of them reads: they answer the same and read the same
+-- pages. Assumes nothing.
+use Prim.Native.Nat.{ℕ, zero, suc, _*_, _≤_}
+use mathlib.Core.Path.{_≡_, refl, ap, _∙_}
+use mathlib.Core.Bool.{Bool, true, false, cond}
+use mathlib.Core.List.{List, [], _∷_}
+use Rattle.geometry.specs.declared.Geometry.{Geometry}
+use Rattle.geometry.specs.Geometry.{bottom}
+use Rattle.geometry.specs.Places.{headRoom}
+use Rattle.slot.specs.declared.Pair.{Pair}
+use Rattle.rules.specs.Sound.{directoryRight}
+use Rattle.walk.specs.declared.Step.{Step}
+use Rattle.walk.specs.declared.Step.the-variants.{Decided, Follow, Nothing, Broken}
+use Rattle.walk.specs.declared.Walked.{Walked}
+use Rattle.walk.specs.declared.Walked.the-variants.{Fault}
+use Rattle.walk.specs.Step.{headStep, pageStep}
+use Rattle.walk.specs.Walk.{walkOn, walked}
+use Rattle.locality.specs.Reads.{readOn, walkReads}
+use Rattle.locality.specs.Agree.{Same, SamePages, same-directory, same-head-step, same-page-step}
+
+module _ (g : Geometry) (w v : List ℕ) (asked : Pair) (four : g .levels ≤ 4) (directory : Same w v 0 9) where
+  -- From what level i told on.
+  same-walk-on : (n i : ℕ) (s : Step) → SamePages g w v (suc i) (readOn g w asked n i s) →
+      (walkOn g w asked n i s ≡ walkOn g v asked n i s) × (readOn g w asked n i s ≡ readOn g v asked n i s)
+  unfolding walkOn readOn
+  same-walk-on zero i (Decided held) same = (refl, refl)
+  same-walk-on zero i (Follow page) same = (refl, refl)
+  same-walk-on zero i Nothing same = (refl, refl)
+  same-walk-on zero i Broken same = (refl, refl)
+  same-walk-on (suc n) i (Decided held) same = (refl, refl)
+  same-walk-on (suc n) i (Follow page) same =
+      let step = same-page-step w v directory g four asked (suc i) (page .0) (same .0) in
+      let rest = same-walk-on n (suc i) (pageStep g w asked (suc i) (page .0)) (same .1) in (
+        rest .0 ∙ ap (walkOn g v asked n (suc i)) step,
+        ap (λ ps. page .0 ∷ ps) (rest .1 ∙ ap (readOn g v asked n (suc i)) step),
+      )
+  same-walk-on (suc n) i Nothing same = (refl, refl)
+  same-walk-on (suc n) i Broken same = (refl, refl)
+
+  pub same-walk : Same w v 9 (3 * headRoom g) → SamePages g w v 1 (walkReads g w asked) →
+      (walked g w asked ≡ walked g v asked) × (walkReads g w asked ≡ walkReads g v asked)
+  unfolding walked walkReads
+  same-walk head pages = rw (← (same-directory w v directory g)) (by (directoryRight g w) pages)
+    where
+      walking : List ℕ → Walked
+      walking x = walkOn g x asked (bottom g) 0 (headStep g x asked)
+
+      reading : List ℕ → List ℕ
+      reading x = readOn g x asked (bottom g) 0 (headStep g x asked)
+
+      by : (b : Bool) → SamePages g w v 1 (cond b (reading w) []) →
+          (cond b (walking w) (Fault 0) ≡ cond b (walking v) (Fault 0)) × (cond b (reading w) [] ≡ cond b (reading v) [])
+      by true same =
+          let step = same-head-step w v directory g four head asked in
+          let rest = same-walk-on (bottom g) 0 (headStep g w asked) same in
+          (rest .0 ∙ ap (walkOn g v asked (bottom g) 0) step, rest .1 ∙ ap (readOn g v asked (bottom g) 0) step)
+      by false same = (refl, refl)

@@ -1,0 +1,1 @@
+// What an ask depends on, as theorems over the walk. specs/ holds them.
