@@ -13,7 +13,7 @@ use Rattle.index.specs.declared.Asked.{Asked}
 use Rattle.index.specs.Reply.{Reply}
 use Rattle.index.specs.Opening.{openTests, opening}
 use Rattle.index.specs.Ask.{askReply, walkReply, askOf, ask-refused, ask-walked}
-use Rattle.index.specs.Unique.{ask-has-one-answer}
+use Rattle.replies.specs.Unique.{ask-has-one-answer}
 use Rattle.locality.specs.Reads.{walkReads, unlessNone, pagesRead, reads-few}
 use Rattle.locality.specs.Inside.{PagesInside, reads-lie-inside, opened-range}
 use Rattle.locality.specs.Agree.{Same, SamePages, same-geometry}

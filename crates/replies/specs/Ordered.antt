@@ -21,14 +21,14 @@ use Rattle.walk.specs.declared.Walked.{Walked}
 use Rattle.walk.specs.declared.Walked.the-variants.{Found, Fault as Fault-of-walk}
 use Rattle.walk.specs.Walk.{walked}
 use Rattle.change.specs.Change.{fillsHead, Changed, changedHead, changedTree, stayed, mergedChange, changeOf}
 use Rattle.index.specs.Reply.{Test, test, firstFailing}
 use Rattle.index.specs.Opening.{openTests, opening}
 use Rattle.index.specs.Ask.{walkReply, askOf, ask-refused, ask-walked}
 use Rattle.index.specs.Check.{faultReply, checkOf, check-refused, check-tested}
 use Rattle.index.specs.List.{filled, testedReply, listOf, list-refused, list-tested}
 use Rattle.index.specs.Format.{formatTests, formatAfter, formatOf}
 use Rattle.index.specs.Edit.{Kept, kept, zeros, faulty, changedReply, bothTests, openingBoth, putFound, dropFound, foundOf, afterWalk, editOf, putOf, dropOf, edit-refused, edit-walked}
-use Rattle.index.specs.Order.{faultOf, heldBy, decider, wholeFault, belowMost, noneLiveFault, walkFault, pairHeld, wouldMerge, mergeFault, faultless, askTests, checkTests, listTests, putTests, dropTests, putFault, dropFault, levelTold, askDone, askRefused, checkDone, checkRefused, listDone, listRefused, formatDone, formatRefused, editDone, editRefused, byFirst}
+use Rattle.replies.specs.Order.{faultOf, heldBy, decider, wholeFault, belowMost, noneLiveFault, walkFault, pairHeld, wouldMerge, mergeFault, faultless, askTests, checkTests, listTests, putTests, dropTests, putFault, dropFault, levelTold, askDone, askRefused, checkDone, checkRefused, listDone, listRefused, formatDone, formatRefused, editDone, editRefused, byFirst}
 
 -- The first test that fails -----------------------------------------------------------------------------------------------------------------
 
