@@ -1,0 +1,44 @@
+-- What the clauses of src/lib.rt cite: the numbers that a host hands over as a pair or a geometry, and the number and values that it gets as a
+-- reply. Assumes nothing.
+use Prim.Native.Nat.{ℕ, zero, suc}
+use native.Mathlib.Omega.{arith}
+use mathlib.Core.Path.{_≡_, refl}
+use mathlib.Core.Bool.{Bool, true, false, cond}
+use mathlib.Core.List.{List, [], _∷_}
+use lib.ListN.{length, getD}
+use Rattle.geometry.specs.declared.Geometry.{Geometry}
+use Rattle.geometry.specs.Geometry.{inRange}
+use Rattle.slot.specs.declared.Pair.{Pair}
+use Rattle.index.specs.Reply.{Reply}
+
+abbrev pub pairOf : ℕ → ℕ → Pair
+pairOf badge floor = record { badge = badge; floor = record { 0 = floor } }
+
+abbrev pub geometryOf : ℕ → ℕ → ℕ → Geometry
+geometryOf h k l = record { head = h; ratio = k; levels = l }
+
+abbrev pub replied : ℕ → List ℕ → Reply
+replied number values = record { number = number; values = values }
+
+-- A number of words that a geometry fixes, 0 outside the ranges.
+unfoldable pub wordsOf : (Geometry → ℕ) → Geometry → ℕ
+wordsOf words g = cond (inRange g) (words g) 0
+
+-- By the test of the ranges.
+module _ (words : Geometry → ℕ) (g : Geometry) where
+  pub no-words : inRange g ≡ false → 0 ≡ wordsOf words g
+  unfolding wordsOf
+  no-words e = rw e
+
+  pub its-words : inRange g ≡ true → words g ≡ wordsOf words g
+  unfolding wordsOf
+  its-words e = rw e
+
+-- Four numbers told one by one.
+pub four-words : (l : List ℕ) → length l ≡ 4 → getD l 0 0 ∷ getD l 1 0 ∷ getD l 2 0 ∷ getD l 3 0 ∷ [] ≡ l
+four-words (a ∷ b ∷ c ∷ d ∷ []) e = refl
+four-words [] e = absurd (omega arith)
+four-words (a ∷ []) e = absurd (omega arith)
+four-words (a ∷ b ∷ []) e = absurd (omega arith)
+four-words (a ∷ b ∷ c ∷ []) e = absurd (omega arith)
+four-words (a ∷ b ∷ c ∷ d ∷ x ∷ l) e = absurd (omega arith)

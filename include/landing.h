@@ -1,0 +1,161 @@
+/*
+ * The landing index: may this badge call this floor?
+ *
+ * An index of pairs (badge, floor), kept as an FD-tree in the words of a flash chip. Each call is proved, for every content of the memory
+ * that it is handed and for every number, to give the reply and to leave the words that crates/landing/src/lib.rt states of it. This file
+ * says the same in words; where it uses a term (level, page, merge, sound) docs/ARCHITECTURE.md explains it.
+ *
+ *
+ * PAIRS. A badge and a floor are any unsigned 32-bit numbers. Pairs are ordered by badge, then by floor.
+ *
+ * GEOMETRY. Three numbers fix the size of an index: h, the head's capacity, 1 to 64; k, the ratio from level to level, 2 to 8; l, the number
+ * of levels, 2 to 4. The index holds at most M = h * k^(l-1) pairs. Level 0 is the head, level l - 1 the bottom.
+ *
+ *      h, k, l     pairs   store words   work words
+ *      4, 2, 3        16           152           64
+ *     21, 2, 2        42           206          128
+ *     10, 4, 3       160           752          512
+ *     64, 8, 4     32768        123088        99904
+ *
+ * STORE. All of an index is in one array of words, the store; there is nothing else to keep. Its words have fixed places and values, whatever
+ * the machine: a host that stores them as bytes chooses an order of the bytes and keeps to it, and reads the same index back on any machine.
+ * A new index begins with landing_format. Afterwards only landing_put and landing_drop change its words. A host may copy a store, read its
+ * words and write them back at any time between calls. A store that was damaged meanwhile may be handed to every call, and none does anything
+ * worse with it than is said below.
+ *
+ * WORK AREA. landing_put and landing_drop need a second array of words for the time of the call. Its contents do not matter and need not be
+ * kept. After a call that merged levels every word of it is 0xffffffff; after every other call it is as it was before.
+ *
+ *
+ * WHAT THE CALLER HAS TO SEE TO. Everything else is tested, and refused by a reply.
+ *   - Each pointer is to as many words as its length says (out: to as many as its type says), is aligned for uint32_t, and is not a null
+ *     pointer, also where the length is 0. Lengths count words, not bytes.
+ *   - Store, work, list and out do not overlap, but that two calls at once may read the same store.
+ *   - Nobody else (another thread, an interrupt, a DMA channel) writes to them during the call, nor reads those that the call may write:
+ *     store and work in landing_format, landing_put and landing_drop, list in landing_list, and out.
+ *
+ * WHAT THE CALLER MAY RELY ON.
+ *   - Every call returns. It touches the memory that it is handed and its own stack, and nothing else.
+ *   - There is no heap, no global variable, no file, no system call and no call of the C library, memcpy and memset apart. Calls are
+ *     reentrant: calls on different stores may run at once, in threads or in an interrupt, and so may calls that only read one store.
+ *   - The stack that a call takes does not grow with the store: see STACK below.
+ *   - A call that replies other than 0 has changed no word of store, work and list.
+ *   - The same memory and the same numbers give the same result, word for word.
+ *
+ *
+ * REPLIES. The result of a call is the number of its reply. Each call tests in this order:
+ *
+ *     0   LANDING_DONE      done
+ *     1   LANDING_RANGE     h, k or l is outside its range: as given, to landing_format, or as the store has them
+ *     5   LANDING_LENGTH    the store has fewer than 9 words (tested before 1, but not by landing_format); or the store or the work area
+ *                           does not have just the words that its geometry asks for
+ *     6   LANDING_FAULT     the store is damaged, as far as this call looks; the level is told
+ *     2   LANDING_HELD      put of a pair that is held
+ *     3   LANDING_MISSING   drop of a pair that is not held
+ *     4   LANDING_FULL      put into an index that holds M pairs
+ *
+ * Two tests of reply 6 come after 2, 3 and 4: a drop of a held pair where the store counts no pairs at all (level l), and the test of the
+ * whole store before a merge.
+ *
+ * OUT. Each call writes every word of out, whatever its reply. With reply 0 they are the values named below; with reply 6 out[0] is the level
+ * and the rest are 0; with every other reply all are 0. The level told with reply 6 is 0 for the directory or the head, else the first faulty
+ * level from the top, or l where the levels are each in order but do not agree with each other or with the number of pairs.
+ *
+ * WHAT IS TESTED. A store is sound if it is exactly what landing_format, landing_put and landing_drop write. landing_check and landing_list
+ * test all of it. landing_ask, landing_put and landing_drop test the directory, the head and the pages on the way to the pair, one page a
+ * level; landing_put and landing_drop test all of the store before they merge. So a fault elsewhere does not keep a badge from being
+ * answered, and no merge spreads it. A changed word can leave a store sound, as another index: no test here replaces a checksum.
+ *
+ *
+ * STACK. Measured, not proved, on x86-64 as built by `rt staticlib landing`: at most STACKBYTES bytes below the caller's frame, in a put or a
+ * drop that merges down to the bottom of an index of 4 levels.
+ */
+#ifndef LANDING_H
+#define LANDING_H
+
+#include <stddef.h>
+#include <stdint.h>
+
+#ifdef __cplusplus
+extern "C" {
+#endif
+
+enum {
+    LANDING_DONE = 0,
+    LANDING_RANGE = 1,
+    LANDING_HELD = 2,
+    LANDING_MISSING = 3,
+    LANDING_FULL = 4,
+    LANDING_LENGTH = 5,
+    LANDING_FAULT = 6
+};
+
+/*
+ * Makes the store of the empty index: writes every word of it, whatever stood there.
+ *
+ * store, n     n words, which must be landing_store_words(h, k, l)
+ *
+ * Replies 0, 1, 5. Reply 1 is tested before the length.
+ */
+uint32_t landing_format(uint32_t *store, size_t n, uint32_t h, uint32_t k, uint32_t l);
+
+/*
+ * From now on this badge may call this floor.
+ *
+ * store, n     the store
+ * work, m      the work area, m words, which must be landing_work_words of the store's geometry
+ * out          out[0] the pairs held now; out[1] the deepest level merged into, 0 for no merge; out[2] the pages written; out[3] to out[6]
+ *              the index entries in levels 0 to 3, 0 for a level that does not exist
+ *
+ * Replies 0, 1, 5, 6, 2, 4. A put that does not merge writes the head's slots, its count and the number of pairs, and no page.
+ */
+uint32_t landing_put(uint32_t *store, size_t n, uint32_t *work, size_t m, uint32_t badge, uint32_t floor, uint32_t out[7]);
+
+/*
+ * From now on this badge may not call this floor. As landing_put, but replies 0, 1, 5, 6, 3.
+ */
+uint32_t landing_drop(uint32_t *store, size_t n, uint32_t *work, size_t m, uint32_t badge, uint32_t floor, uint32_t out[7]);
+
+/*
+ * May this badge call this floor?
+ *
+ * out          out[0] 1 for yes, 0 for no; out[1] the level that decided, or l where none did, which is a no
+ *
+ * Replies 0, 1, 5, 6. A host that must not let a door stay open tests the reply first: with every reply but 0 and 6 out[0] is 0, but with
+ * reply 6 it is a level.
+ */
+uint32_t landing_ask(const uint32_t *store, size_t n, uint32_t badge, uint32_t floor, uint32_t out[2]);
+
+/*
+ * Which pairs does the index hold, from (badge1, floor1) to (badge2, floor2), both included?
+ *
+ * list, m      m words, any number: the pairs are written here, ascending, two words each, badge then floor, as many as there is room for;
+ *              the words after them stay as they were. If the first pair is above the second none is written.
+ * out          out[0] the pairs written; out[1] the mark: 1 if list has no room for another pair after them, else 0
+ *
+ * Replies 0, 1, 5, 6. If the mark is 1 there may be more: a host goes on with the pair after the last one written.
+ */
+uint32_t landing_list(const uint32_t *store, size_t n, uint32_t badge1, uint32_t floor1, uint32_t badge2, uint32_t floor2, uint32_t *list,
+                      size_t m, uint32_t out[2]);
+
+/*
+ * Is the store sound?
+ *
+ * out          out[0] is 0 where it is
+ *
+ * Replies 0, 1, 5, 6.
+ */
+uint32_t landing_check(const uint32_t *store, size_t n, uint32_t out[1]);
+
+/*
+ * How many words a store and a work area of this geometry have; 0 where h, k or l is outside its range. The first is at most 123088, the
+ * second at most 99904.
+ */
+uint32_t landing_store_words(uint32_t h, uint32_t k, uint32_t l);
+uint32_t landing_work_words(uint32_t h, uint32_t k, uint32_t l);
+
+#ifdef __cplusplus
+}
+#endif
+
+#endif
