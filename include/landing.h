@@ -19,28 +19,26 @@
  *
  * STORE. All of an index is in one array of words, the store; there is nothing else to keep. Its words have fixed places and values, whatever
  * the machine: a host that stores them as bytes chooses an order of the bytes and keeps to it, and reads the same index back on any machine.
- * A new index begins with landing_format. Afterwards only landing_put and landing_drop change its words. A host may copy a store, read its
- * words and write them back at any time between calls. A store that was damaged meanwhile may be handed to every call, and none does anything
- * worse with it than is said below.
+ * A new index begins with landing_format. Afterwards only landing_put and landing_drop change its words. Between calls a host may copy a
+ * store, move it and save it. Any words at all may be handed over as a store: what is no store is refused.
  *
  * WORK AREA. landing_put and landing_drop need a second array of words for the time of the call. Its contents do not matter and need not be
  * kept. After a call that merged levels every word of it is 0xffffffff; after every other call it is as it was before.
  *
  *
  * WHAT THE CALLER HAS TO SEE TO. Everything else is tested, and refused by a reply.
- *   - Each pointer is to as many words as its length says (out: to as many as its type says), is aligned for uint32_t, and is not a null
- *     pointer, also where the length is 0. Lengths count words, not bytes.
- *   - Store, work, list and out do not overlap, but that two calls at once may read the same store.
- *   - Nobody else (another thread, an interrupt, a DMA channel) writes to them during the call, nor reads those that the call may write:
- *     store and work in landing_format, landing_put and landing_drop, list in landing_list, and out.
+ *   - Each pointer is to as many words as the length after it says, and out to as many as its declaration says. It is aligned for uint32_t,
+ *     and is not a null pointer, even where the length is 0. Lengths count words, not bytes.
+ *   - Store, work, list and out of one call do not overlap.
+ *   - During a call nobody else (a thread, an interrupt, a DMA channel) writes to any of them, or reads those that are not const.
  *
  * WHAT THE CALLER MAY RELY ON.
- *   - Every call returns. It touches the memory that it is handed and its own stack, and nothing else.
- *   - There is no heap, no global variable, no file, no system call and no call of the C library, memcpy and memset apart. Calls are
- *     reentrant: calls on different stores may run at once, in threads or in an interrupt, and so may calls that only read one store.
- *   - The stack that a call takes does not grow with the store: see STACK below.
+ *   - Every call returns. It reads and writes the memory that it is handed and its own stack, and nothing else.
+ *   - There is no heap, no global variable and no system call. Of the C library it may call memcpy, memmove and memset, and nothing else.
+ *   - Calls are reentrant. Calls on different stores may run at once, in threads or in interrupts, and so may calls that only read one store.
+ *   - The stack that a call takes does not depend on the store's size: see STACK.
  *   - A call that replies other than 0 has changed no word of store, work and list.
- *   - The same memory and the same numbers give the same result, word for word.
+ *   - The same words and the same numbers give the same result, word for word.
  *
  *
  * REPLIES. The result of a call is the number of its reply. Each call tests in this order:
@@ -61,10 +59,11 @@
  * and the rest are 0; with every other reply all are 0. The level told with reply 6 is 0 for the directory or the head, else the first faulty
  * level from the top, or l where the levels are each in order but do not agree with each other or with the number of pairs.
  *
- * WHAT IS TESTED. A store is sound if it is exactly what landing_format, landing_put and landing_drop write. landing_check and landing_list
- * test all of it. landing_ask, landing_put and landing_drop test the directory, the head and the pages on the way to the pair, one page a
- * level; landing_put and landing_drop test all of the store before they merge. So a fault elsewhere does not keep a badge from being
- * answered, and no merge spreads it. A changed word can leave a store sound, as another index: no test here replaces a checksum.
+ * WHAT IS TESTED. A store is sound if every word of it is as the rules of writing have it. What landing_format makes is sound, and landing_put
+ * and landing_drop keep a sound store sound. landing_check and landing_list test all of the store; landing_ask, landing_put and landing_drop
+ * test the directory, the head and the pages on the way to the pair, at most one in each lower level; and landing_put and landing_drop test
+ * all of it before they merge. So a fault in a page keeps no other page's badges from being answered, and no merge spreads it. A changed
+ * word can leave a store sound, as another index: no test here replaces a checksum.
  *
  *
  * STACK. Measured, not proved, on x86-64 as built by `rt staticlib landing`: at most STACKBYTES bytes below the caller's frame, in a put or a
@@ -104,10 +103,10 @@ uint32_t landing_format(uint32_t *store, size_t n, uint32_t h, uint32_t k, uint3
  *
  * store, n     the store
  * work, m      the work area, m words, which must be landing_work_words of the store's geometry
- * out          out[0] the pairs held now; out[1] the deepest level merged into, 0 for no merge; out[2] the pages written; out[3] to out[6]
- *              the index entries in levels 0 to 3, 0 for a level that does not exist
+ * out          out[0] the pairs held now, as the store counts them; out[1] the deepest level merged into, 0 for no merge; out[2] the pages
+ *              written; out[3] to out[6] the index entries in levels 0 to 3, 0 for a level that does not exist
  *
- * Replies 0, 1, 5, 6, 2, 4. A put that does not merge writes the head's slots, its count and the number of pairs, and no page.
+ * Replies 0, 1, 5, 6, 2, 4. A put that does not merge writes the head's slots, its slot count and the number of pairs, and no page.
  */
 uint32_t landing_put(uint32_t *store, size_t n, uint32_t *work, size_t m, uint32_t badge, uint32_t floor, uint32_t out[7]);
 
@@ -121,8 +120,7 @@ uint32_t landing_drop(uint32_t *store, size_t n, uint32_t *work, size_t m, uint3
  *
  * out          out[0] 1 for yes, 0 for no; out[1] the level that decided, or l where none did, which is a no
  *
- * Replies 0, 1, 5, 6. A host that must not let a door stay open tests the reply first: with every reply but 0 and 6 out[0] is 0, but with
- * reply 6 it is a level.
+ * Replies 0, 1, 5, 6. Look at the reply before out[0], which with reply 6 is a level.
  */
 uint32_t landing_ask(const uint32_t *store, size_t n, uint32_t badge, uint32_t floor, uint32_t out[2]);
 
@@ -133,7 +131,7 @@ uint32_t landing_ask(const uint32_t *store, size_t n, uint32_t badge, uint32_t f
  *              the words after them stay as they were. If the first pair is above the second none is written.
  * out          out[0] the pairs written; out[1] the mark: 1 if list has no room for another pair after them, else 0
  *
- * Replies 0, 1, 5, 6. If the mark is 1 there may be more: a host goes on with the pair after the last one written.
+ * Replies 0, 1, 5, 6. If the mark is 1 there may be more: go on from the pair after the last one written.
  */
 uint32_t landing_list(const uint32_t *store, size_t n, uint32_t badge1, uint32_t floor1, uint32_t badge2, uint32_t floor2, uint32_t *list,
                       size_t m, uint32_t out[2]);

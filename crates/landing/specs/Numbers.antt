@@ -2,7 +2,7 @@
 -- reply. Assumes nothing.
 use Prim.Native.Nat.{ℕ, zero, suc}
 use native.Mathlib.Omega.{arith}
-use mathlib.Core.Path.{_≡_, refl}
+use mathlib.Core.Path.{_≡_, refl, ap}
 use mathlib.Core.Bool.{Bool, true, false, cond}
 use mathlib.Core.List.{List, [], _∷_}
 use lib.ListN.{length, getD}
@@ -10,6 +10,8 @@ use Rattle.geometry.specs.declared.Geometry.{Geometry}
 use Rattle.geometry.specs.Geometry.{inRange}
 use Rattle.slot.specs.declared.Pair.{Pair}
 use Rattle.index.specs.Reply.{Reply}
+use Rattle.index.specs.List.{Filled}
+use Rattle.index.specs.Edit.{Kept}
 
 abbrev pub pairOf : ℕ → ℕ → Pair
 pairOf badge floor = record { badge = badge; floor = record { 0 = floor } }
@@ -19,6 +21,14 @@ geometryOf h k l = record { head = h; ratio = k; levels = l }
 
 abbrev pub replied : ℕ → List ℕ → Reply
 replied number values = record { number = number; values = values }
+
+-- Equal replies are equal beside the same words.
+pub beside : {x y : Reply} (words : List ℕ) → x ≡ y → _≡_ {A = Filled} (record { reply = x; words = words }) (record { reply = y; words = words })
+beside words e = ap (λ (x : Reply). record { reply = x; words = words }) e
+
+pub beside-both : {x y : Reply} (store work : List ℕ) → x ≡ y →
+    _≡_ {A = Kept} (record { reply = x; store = store; work = work }) (record { reply = y; store = store; work = work })
+beside-both store work e = ap (λ (x : Reply). record { reply = x; store = store; work = work }) e
 
 -- A number of words that a geometry fixes, 0 outside the ranges.
 unfoldable pub wordsOf : (Geometry → ℕ) → Geometry → ℕ

@@ -24,8 +24,7 @@ module _ (r s : ℕ) (a b : List ℕ) where
 
   told-kept : (x : Kept) (v u m n : List ℕ) → kept r a v m ≡ x → kept s b u n ≡ x → (r ≡ s) × (a ≡ b) × (v ≡ u) × (m ≡ n)
   told-kept x v u m n p q =
-      let e = p ∙ sym q in
-      (
+      let e = p ∙ sym q in (
         ap (λ (y : Kept). y .reply .number) e,
         ap (λ (y : Kept). y .reply .values) e,
         ap (λ (y : Kept). y .store) e,

@@ -30,7 +30,13 @@ pub extern "C" fn landing_format(store: &mut [u32], h: u32, k: u32, l: u32) -> u
 
 // From now on this badge may call this floor.
 #[no_mangle]
-pub extern "C" fn landing_put(store: &mut [u32], work: &mut [u32], badge: u32, floor: u32, out: &mut [u32; 7]) -> u32
+pub extern "C" fn landing_put(
+    store: &mut [u32],
+    work: &mut [u32],
+    badge: u32,
+    floor: u32,
+    out: &mut [u32; 7],
+) -> u32
     ensures { λ r. ⌜ kept r (now (out .exit)) (now (store .exit)) (now (work .exit)) ≡ putOf (now (store .entry)) (now (work .entry)) (pairOf badge floor) ⌝ }
 {
     tell_changed(index::put(store, work, pair_of(badge, floor)), out)
@@ -38,7 +44,13 @@ pub extern "C" fn landing_put(store: &mut [u32], work: &mut [u32], badge: u32, f
 
 // From now on it may not.
 #[no_mangle]
-pub extern "C" fn landing_drop(store: &mut [u32], work: &mut [u32], badge: u32, floor: u32, out: &mut [u32; 7]) -> u32
+pub extern "C" fn landing_drop(
+    store: &mut [u32],
+    work: &mut [u32],
+    badge: u32,
+    floor: u32,
+    out: &mut [u32; 7],
+) -> u32
     ensures { λ r. ⌜ kept r (now (out .exit)) (now (store .exit)) (now (work .exit)) ≡ dropOf (now (store .entry)) (now (work .entry)) (pairOf badge floor) ⌝ }
 {
     tell_changed(index::drop(store, work, pair_of(badge, floor)), out)
@@ -54,10 +66,26 @@ pub extern "C" fn landing_ask(store: &[u32], badge: u32, floor: u32, out: &mut [
 
 // Which pairs from a first to a second does this store hold?
 #[no_mangle]
-pub extern "C" fn landing_list(store: &[u32], badge1: u32, floor1: u32, badge2: u32, floor2: u32, list: &mut [u32], out: &mut [u32; 2]) -> u32
+pub extern "C" fn landing_list(
+    store: &[u32],
+    badge1: u32,
+    floor1: u32,
+    badge2: u32,
+    floor2: u32,
+    list: &mut [u32],
+    out: &mut [u32; 2],
+) -> u32
     ensures { λ r. ⌜ filled r (now (out .exit)) (now (list .exit)) ≡ listOf (now (store .entry)) (pairOf badge1 floor1) (pairOf badge2 floor2) (now (list .entry)) ⌝ }
 {
-    tell_shown(index::list(store, pair_of(badge1, floor1), pair_of(badge2, floor2), list), out)
+    tell_shown(
+        index::list(
+            store,
+            pair_of(badge1, floor1),
+            pair_of(badge2, floor2),
+            list,
+        ),
+        out,
+    )
 }
 
 // Is this store sound?
@@ -68,30 +96,41 @@ pub extern "C" fn landing_check(store: &[u32], out: &mut [u32; 1]) -> u32
     tell_checked(index::check(store), out)
 }
 
-// How many words a store has.
+// How many words a store has, 0 outside the ranges.
 #[no_mangle]
 pub extern "C" fn landing_store_words(h: u32, k: u32, l: u32) -> u32
     ensures { λ r. ⌜ r ≡ wordsOf storeWords (geometryOf h k l) ⌝ }
 {
-    let g = geometry_of(h, k, l);
-    if !geometry::in_range(g) {
-        return 0;
-    }
-    let plan = geometry::plan_for(g);
-    plan.store_words
+    let lengths = lengths_of(geometry_of(h, k, l));
+    lengths.store
 }
 
-// How many words a work area has.
+// How many words a work area has, 0 outside the ranges.
 #[no_mangle]
 pub extern "C" fn landing_work_words(h: u32, k: u32, l: u32) -> u32
     ensures { λ r. ⌜ r ≡ wordsOf workWords (geometryOf h k l) ⌝ }
 {
-    let g = geometry_of(h, k, l);
+    let lengths = lengths_of(geometry_of(h, k, l));
+    lengths.work
+}
+
+// The words of a store and of a work area.
+pub struct Lengths {
+    pub store: u32,
+    pub work: u32,
+}
+
+fn lengths_of(g: Geometry) -> Lengths
+    ensures { λ r. ⌜ (r .store ≡ wordsOf storeWords g) × (r .work ≡ wordsOf workWords g) ⌝ }
+{
     if !geometry::in_range(g) {
-        return 0;
+        return Lengths { store: 0, work: 0 };
     }
     let plan = geometry::plan_for(g);
-    plan.work_words
+    Lengths {
+        store: plan.store_words,
+        work: plan.work_words,
+    }
 }
 
 fn pair_of(badge: u32, floor: u32) -> Pair
@@ -192,9 +231,24 @@ fn tell_two(number: u32, first: u32, second: u32, out: &mut [u32; 2]) -> u32
     number
 }
 
-fn tell_seven(number: u32, first: u32, second: u32, third: u32, entries: [u32; 4], out: &mut [u32; 7]) -> u32
+fn tell_seven(
+    number: u32,
+    first: u32,
+    second: u32,
+    third: u32,
+    entries: [u32; 4],
+    out: &mut [u32; 7],
+) -> u32
     ensures { λ r. ⌜ replied r (now (out .exit)) ≡ replied number (first ∷ second ∷ third ∷ entries) ⌝ }
 {
-    *out = [first, second, third, entries[0], entries[1], entries[2], entries[3]];
+    *out = [
+        first,
+        second,
+        third,
+        entries[0],
+        entries[1],
+        entries[2],
+        entries[3],
+    ];
     number
 }

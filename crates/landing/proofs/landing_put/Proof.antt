@@ -1,34 +1,24 @@
+-- `landing_put` tells what `index::put` answers, and the words that it leaves. Assumes nothing.
 use mathlib.Core.Path.{_∙_}
 use borrow.Author.Needs.{needs}
 use Rattle.landing.proofs.landing_put.Statement.{statement}
 use Rattle.landing.proofs.landing_put.Tie as tie
-use Rattle.landing.proofs.landing_put.Reads as reads
-use Rattle.landing.proofs.landing_put.Lts as lts
-use Rattle.index.proofs.put.Reads as put-reads
-use Rattle.landing.proofs.pair_of.Reads as pair-of-reads
-use Rattle.landing.proofs.tell_changed.Reads as tell-changed-reads
 
--- src/lib.rt:36:42
 pair-of-requires : tie.Need-pair-of-requires
 pair-of-requires c κs = search needs
 
--- src/lib.rt:36:18
 put-requires : tie.Need-put-requires
 put-requires c κs = search needs
 
--- src/lib.rt:36:5
 tell-changed-requires : tie.Need-tell-changed-requires
 tell-changed-requires c κs = search needs
 
--- src/lib.rt:32:1
 same-length : tie.Need-same-length
 same-length c = search needs
 
--- src/lib.rt:32:1
 same-length-2 : tie.Need-same-length-2
 same-length-2 c = search needs
 
--- src/lib.rt:32:1
 returns : tie.Need-returns
 returns c = rw (← c .before .before .before .before .before .before .before .pair-of .ensures) (c .tell-changed .ensures (c .before .before .before .before .before .before .put .last .0) (c .before .before .before .before .before .before .put .last .1 .0) ∙ c .before .before .before .before .before .before .put .ensures)
 

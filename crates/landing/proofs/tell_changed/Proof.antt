@@ -1,95 +1,71 @@
-use mathlib.Core.Path.{ap}
-use Rattle.index.specs.Reply.{Reply}
+-- `tell_changed` gives the number and the seven values of what put or drop answered, case by case. Assumes nothing.
+use Rattle.landing.specs.Numbers.{beside-both}
 use borrow.Author.Needs.{needs}
 use Rattle.landing.proofs.tell_changed.Statement.{statement}
 use Rattle.landing.proofs.tell_changed.Tie as tie
-use Rattle.landing.proofs.tell_changed.Reads as reads
-use Rattle.landing.proofs.tell_changed.Lts as lts
-use Rattle.landing.proofs.tell_seven.Reads as tell-seven-reads
 
--- src/lib.rt:134:22
 enum-known-answer : tie.Need-enum-known-answer
 enum-known-answer c = search needs
 
--- src/lib.rt:134:47
 tell-seven-requires : tie.Need-tell-seven-requires
 tell-seven-requires c κs = search needs
 
--- src/lib.rt:135:58
 enum-told : tie.Need-enum-told
 enum-told c = search needs
 
--- src/lib.rt:135:26
 tell-seven-requires-2 : tie.Need-tell-seven-requires-2
 tell-seven-requires-2 c κs = search needs
 
--- src/lib.rt:136:59
 enum-told-2 : tie.Need-enum-told-2
 enum-told-2 c = search needs
 
--- src/lib.rt:136:27
 tell-seven-requires-3 : tie.Need-tell-seven-requires-3
 tell-seven-requires-3 c κs = search needs
 
--- src/lib.rt:137:23
 enum-known-answer-2 : tie.Need-enum-known-answer-2
 enum-known-answer-2 c = search needs
 
--- src/lib.rt:137:33
 tell-seven-requires-4 : tie.Need-tell-seven-requires-4
 tell-seven-requires-4 c κs = search needs
 
--- src/lib.rt:138:57
 enum-told-3 : tie.Need-enum-told-3
 enum-told-3 c = search needs
 
--- src/lib.rt:138:25
 tell-seven-requires-5 : tie.Need-tell-seven-requires-5
 tell-seven-requires-5 c κs = search needs
 
--- src/lib.rt:139:60
 enum-told-4 : tie.Need-enum-told-4
 enum-told-4 c = search needs
 
--- src/lib.rt:139:28
 tell-seven-requires-6 : tie.Need-tell-seven-requires-6
 tell-seven-requires-6 c κs = search needs
 
--- src/lib.rt:140:57
 enum-told-5 : tie.Need-enum-told-5
 enum-told-5 c = search needs
 
--- src/lib.rt:140:25
 tell-seven-requires-7 : tie.Need-tell-seven-requires-7
 tell-seven-requires-7 c κs = search needs
 
--- src/lib.rt:128:1
 returns : tie.Need-returns
-returns c = λ store work. rw (c .before .before .before .answer .given .1) (ap (λ (x : Reply). record { reply = x; store = store; work = work }) (c .tell-seven .ensures))
+returns c store work = rw (c .before .before .before .answer .given .1) (beside-both store work (c .tell-seven .ensures))
 
--- src/lib.rt:128:1
 returns-2 : tie.Need-returns-2
-returns-2 c = λ store work. rw (c .before .before .enum-told .given .1) (ap (λ (x : Reply). record { reply = x; store = store; work = work }) (c .tell-seven2 .ensures))
+returns-2 c store work = rw (c .before .before .enum-told .given .1) (beside-both store work (c .tell-seven2 .ensures))
 
--- src/lib.rt:128:1
 returns-3 : tie.Need-returns-3
-returns-3 c = λ store work. rw (c .before .before .enum-told2 .given .1) (ap (λ (x : Reply). record { reply = x; store = store; work = work }) (c .tell-seven3 .ensures))
+returns-3 c store work = rw (c .before .before .enum-told2 .given .1) (beside-both store work (c .tell-seven3 .ensures))
 
--- src/lib.rt:128:1
 returns-4 : tie.Need-returns-4
-returns-4 c = λ store work. rw (c .before .before .before .answer2 .given .1) (ap (λ (x : Reply). record { reply = x; store = store; work = work }) (c .tell-seven4 .ensures))
+returns-4 c store work = rw (c .before .before .before .answer2 .given .1) (beside-both store work (c .tell-seven4 .ensures))
 
--- src/lib.rt:128:1
 returns-5 : tie.Need-returns-5
-returns-5 c = λ store work. rw (c .before .before .enum-told3 .given .1) (ap (λ (x : Reply). record { reply = x; store = store; work = work }) (c .tell-seven5 .ensures))
+returns-5 c store work = rw (c .before .before .enum-told3 .given .1) (beside-both store work (c .tell-seven5 .ensures))
 
--- src/lib.rt:128:1
 returns-6 : tie.Need-returns-6
-returns-6 c = λ store work. rw (c .before .before .enum-told4 .given .1) (ap (λ (x : Reply). record { reply = x; store = store; work = work }) (c .tell-seven6 .ensures))
+returns-6 c store work = rw (c .before .before .enum-told4 .given .1) (beside-both store work (c .tell-seven6 .ensures))
 
--- src/lib.rt:128:1
 returns-7 : tie.Need-returns-7
-returns-7 c = λ store work. rw (c .before .before .enum-told5 .given .1) (ap (λ (x : Reply). record { reply = x; store = store; work = work }) (c .tell-seven7 .ensures))
+returns-7 c store work = rw (c .before .before .enum-told5 .given .1) (beside-both store work (c .tell-seven7 .ensures))
 
 pub tell-changed-spec : {M : Type 1} → statement M
 tell-changed-spec =

@@ -1,29 +1,23 @@
+-- `tell_seven` puts out three numbers and then the four of an array. Assumes nothing.
 use mathlib.Core.Path.{refl}
 use native.Mathlib.Omega.{arith}
 use Rattle.landing.specs.Numbers.{four-words}
 use borrow.Author.Needs.{needs}
 use Rattle.landing.proofs.tell_seven.Statement.{statement}
 use Rattle.landing.proofs.tell_seven.Tie as tie
-use Rattle.landing.proofs.tell_seven.Reads as reads
-use Rattle.landing.proofs.tell_seven.Lts as lts
 
--- src/lib.rt:198:35
 array-read-t10 : tie.Need-array-read-t10
 array-read-t10 c = search needs
 
--- src/lib.rt:198:47
 array-read-t13 : tie.Need-array-read-t13
 array-read-t13 c = search needs
 
--- src/lib.rt:198:59
 array-read-t16 : tie.Need-array-read-t16
 array-read-t16 c = search needs
 
--- src/lib.rt:198:71
 array-read-t19 : tie.Need-array-read-t19
 array-read-t19 c = search needs
 
--- src/lib.rt:195:1
 returns : tie.Need-returns
 returns c = rw (four-words (c .before .args .t5) (omega arith)) refl
 
