@@ -1,9 +1,9 @@
 -- What the clauses of src/lib.rt cite: the numbers that a host hands over as a pair or a geometry, and the number and values that it gets as a
 -- reply. Assumes nothing.
-use Prim.Native.Nat.{ℕ, zero, suc}
+use Prim.Native.Nat.{ℕ}
 use native.Mathlib.Omega.{arith}
 use mathlib.Core.Path.{_≡_, refl, ap}
-use mathlib.Core.Bool.{Bool, true, false, cond}
+use mathlib.Core.Bool.{true, false, cond}
 use mathlib.Core.List.{List, [], _∷_}
 use lib.ListN.{length, getD}
 use Rattle.geometry.specs.declared.Geometry.{Geometry}
@@ -16,11 +16,25 @@ use Rattle.index.specs.Edit.{Kept}
 abbrev pub pairOf : ℕ → ℕ → Pair
 pairOf badge floor = record { badge = badge; floor = record { 0 = floor } }
 
-abbrev pub geometryOf : ℕ → ℕ → ℕ → Geometry
-geometryOf h k l = record { head = h; ratio = k; levels = l }
+abbrev pub geometryFrom : ℕ → ℕ → ℕ → Geometry
+geometryFrom h k l = record { head = h; ratio = k; levels = l }
 
 abbrev pub replied : ℕ → List ℕ → Reply
 replied number values = record { number = number; values = values }
+
+-- A number of words that a geometry fixes, 0 outside the ranges.
+unfoldable pub wordsFor : (Geometry → ℕ) → Geometry → ℕ
+wordsFor words g = cond (inRange g) (words g) 0
+
+-- By the test of the ranges.
+module _ (words : Geometry → ℕ) (g : Geometry) where
+  pub no-words : inRange g ≡ false → 0 ≡ wordsFor words g
+  unfolding wordsFor
+  no-words e = rw e
+
+  pub its-words : inRange g ≡ true → words g ≡ wordsFor words g
+  unfolding wordsFor
+  its-words e = rw e
 
 -- Equal replies are equal beside the same words.
 pub beside : {x y : Reply} (words : List ℕ) → x ≡ y → _≡_ {A = Filled} (record { reply = x; words = words }) (record { reply = y; words = words })
@@ -29,20 +43,6 @@ beside words e = ap (λ (x : Reply). record { reply = x; words = words }) e
 pub beside-both : {x y : Reply} (store work : List ℕ) → x ≡ y →
     _≡_ {A = Kept} (record { reply = x; store = store; work = work }) (record { reply = y; store = store; work = work })
 beside-both store work e = ap (λ (x : Reply). record { reply = x; store = store; work = work }) e
-
--- A number of words that a geometry fixes, 0 outside the ranges.
-unfoldable pub wordsOf : (Geometry → ℕ) → Geometry → ℕ
-wordsOf words g = cond (inRange g) (words g) 0
-
--- By the test of the ranges.
-module _ (words : Geometry → ℕ) (g : Geometry) where
-  pub no-words : inRange g ≡ false → 0 ≡ wordsOf words g
-  unfolding wordsOf
-  no-words e = rw e
-
-  pub its-words : inRange g ≡ true → words g ≡ wordsOf words g
-  unfolding wordsOf
-  its-words e = rw e
 
 -- Four numbers told one by one.
 pub four-words : (l : List ℕ) → length l ≡ 4 → getD l 0 0 ∷ getD l 1 0 ∷ getD l 2 0 ∷ getD l 3 0 ∷ [] ≡ l

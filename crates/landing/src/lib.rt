@@ -9,7 +9,7 @@ ghost use Rattle.index.specs.Check.{checkReply, checkOf};
 ghost use Rattle.index.specs.List.{filled, listReply, listOf};
 ghost use Rattle.index.specs.Format.{formatReply, formatOf};
 ghost use Rattle.index.specs.Edit.{kept, editReply, putOf, dropOf};
-ghost use Rattle.landing.specs.Numbers.{pairOf, geometryOf, replied, wordsOf};
+ghost use Rattle.landing.specs.Numbers.{pairOf, geometryFrom, replied, wordsFor};
 use geometry::Geometry;
 use index::Asked;
 use index::Changed;
@@ -23,9 +23,9 @@ use slot::Rid;
 // Makes the store of the empty set.
 #[no_mangle]
 pub extern "C" fn landing_format(store: &mut [u32], h: u32, k: u32, l: u32) -> u32
-    ensures { λ r. ⌜ filled r (0 ∷ []) (now (store .exit)) ≡ formatOf (now (store .entry)) (geometryOf h k l) ⌝ }
+    ensures { λ r. ⌜ filled r (0 ∷ []) (now (store .exit)) ≡ formatOf (now (store .entry)) (geometryFrom h k l) ⌝ }
 {
-    tell_formatted(index::format(store, geometry_of(h, k, l)))
+    tell_formatted(index::format(store, geometry_from(h, k, l)))
 }
 
 // From now on this badge may call this floor.
@@ -99,18 +99,18 @@ pub extern "C" fn landing_check(store: &[u32], out: &mut [u32; 1]) -> u32
 // How many words a store has, 0 outside the ranges.
 #[no_mangle]
 pub extern "C" fn landing_store_words(h: u32, k: u32, l: u32) -> u32
-    ensures { λ r. ⌜ r ≡ wordsOf storeWords (geometryOf h k l) ⌝ }
+    ensures { λ r. ⌜ r ≡ wordsFor storeWords (geometryFrom h k l) ⌝ }
 {
-    let lengths = lengths_of(geometry_of(h, k, l));
+    let lengths = lengths_of(geometry_from(h, k, l));
     lengths.store
 }
 
 // How many words a work area has, 0 outside the ranges.
 #[no_mangle]
 pub extern "C" fn landing_work_words(h: u32, k: u32, l: u32) -> u32
-    ensures { λ r. ⌜ r ≡ wordsOf workWords (geometryOf h k l) ⌝ }
+    ensures { λ r. ⌜ r ≡ wordsFor workWords (geometryFrom h k l) ⌝ }
 {
-    let lengths = lengths_of(geometry_of(h, k, l));
+    let lengths = lengths_of(geometry_from(h, k, l));
     lengths.work
 }
 
@@ -121,7 +121,7 @@ pub struct Lengths {
 }
 
 fn lengths_of(g: Geometry) -> Lengths
-    ensures { λ r. ⌜ (r .store ≡ wordsOf storeWords g) × (r .work ≡ wordsOf workWords g) ⌝ }
+    ensures { λ r. ⌜ (r .store ≡ wordsFor storeWords g) × (r .work ≡ wordsFor workWords g) ⌝ }
 {
     if !geometry::in_range(g) {
         return Lengths { store: 0, work: 0 };
@@ -142,8 +142,8 @@ fn pair_of(badge: u32, floor: u32) -> Pair
     }
 }
 
-fn geometry_of(h: u32, k: u32, l: u32) -> Geometry
-    ensures { λ r. ⌜ r ≡ geometryOf h k l ⌝ }
+fn geometry_from(h: u32, k: u32, l: u32) -> Geometry
+    ensures { λ r. ⌜ r ≡ geometryFrom h k l ⌝ }
 {
     Geometry {
         head: h,

@@ -14,7 +14,7 @@ tell-asked-requires : tie.Need-tell-asked-requires
 tell-asked-requires c κs = search needs
 
 returns : tie.Need-returns
-returns c = rw (← c .before .before .before .pair-of .ensures) (c .tell-asked .ensures ∙ c .before .before .ask .ensures)
+returns c = c .tell-asked .ensures ∙ rw (c .before .before .before .pair-of .ensures) at (c .before .before .ask .ensures)
 
 pub landing-ask-spec : {M : Type 1} → statement M
 landing-ask-spec = tie.close (tie.spec pair-of-requires ask-requires tell-asked-requires returns)

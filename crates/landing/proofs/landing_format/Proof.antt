@@ -4,8 +4,8 @@ use borrow.Author.Needs.{needs}
 use Rattle.landing.proofs.landing_format.Statement.{statement}
 use Rattle.landing.proofs.landing_format.Tie as tie
 
-geometry-of-requires : tie.Need-geometry-of-requires
-geometry-of-requires c κs = search needs
+geometry-from-requires : tie.Need-geometry-from-requires
+geometry-from-requires c κs = search needs
 
 format-requires : tie.Need-format-requires
 format-requires c κs = search needs
@@ -17,9 +17,9 @@ same-length : tie.Need-same-length
 same-length c = search needs
 
 returns : tie.Need-returns
-returns c = rw (← c .before .before .before .before .geometry-of .ensures) (c .tell-formatted .ensures (c .before .before .before .format .last .0) ∙ c .before .before .before .format .ensures)
+returns c = c .tell-formatted .ensures (c .before .before .before .format .last .0) ∙ rw (c .before .before .before .before .geometry-from .ensures) at (c .before .before .before .format .ensures)
 
 pub landing-format-spec : {M : Type 1} → statement M
 landing-format-spec =
     tie.close
-    (tie.spec geometry-of-requires format-requires tell-formatted-requires same-length returns)
+    (tie.spec geometry-from-requires format-requires tell-formatted-requires same-length returns)

@@ -20,7 +20,7 @@ same-length : tie.Need-same-length
 same-length c = search needs
 
 returns : tie.Need-returns
-returns c = rw (← c .before .before .before .before .before .before .before .pair-of .ensures, ← c .before .before .before .before .before .before .pair-of2 .ensures) (c .tell-shown .ensures (c .before .before .before .before .list .last .1 .1 .1 .0) ∙ c .before .before .before .before .list .ensures)
+returns c = c .tell-shown .ensures (c .before .before .before .before .list .last .1 .1 .1 .0) ∙ rw (c .before .before .before .before .before .before .before .pair-of .ensures, c .before .before .before .before .before .before .pair-of2 .ensures) at (c .before .before .before .before .list .ensures)
 
 pub landing-list-spec : {M : Type 1} → statement M
 landing-list-spec =

@@ -20,7 +20,7 @@ same-length-2 : tie.Need-same-length-2
 same-length-2 c = search needs
 
 returns : tie.Need-returns
-returns c = rw (← c .before .before .before .before .before .before .before .pair-of .ensures) (c .tell-changed .ensures (c .before .before .before .before .before .before .put .last .0) (c .before .before .before .before .before .before .put .last .1 .0) ∙ c .before .before .before .before .before .before .put .ensures)
+returns c = c .tell-changed .ensures (c .before .before .before .before .before .before .put .last .0) (c .before .before .before .before .before .before .put .last .1 .0) ∙ rw (c .before .before .before .before .before .before .before .pair-of .ensures) at (c .before .before .before .before .before .before .put .ensures)
 
 pub landing-put-spec : {M : Type 1} → statement M
 landing-put-spec =
