@@ -66,8 +66,13 @@
  * word can leave a store sound, as another index: no test here replaces a checksum.
  *
  *
- * STACK. Measured, not proved, on x86-64 as built by `rt staticlib landing`: at most STACKBYTES bytes below the caller's frame, in a put or a
- * drop that merges down to the bottom of an index of 4 levels.
+ * STACK. Measured, not proved, for x86-64 as `rt staticlib landing` builds it, in bytes below the caller's frame:
+ *
+ *     landing_put, landing_drop   2980     in a merge from level 0 down to level 3; without one less than half of it
+ *     landing_list                1652
+ *     landing_check               1204
+ *     landing_ask                  549
+ *     landing_format               136
  */
 #ifndef LANDING_H
 #define LANDING_H
