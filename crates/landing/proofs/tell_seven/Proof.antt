@@ -1,7 +1,9 @@
 -- `tell_seven` puts out three numbers and then the four of an array. Assumes nothing.
-use mathlib.Core.Path.{refl}
+use Prim.Native.Nat.{ℕ}
+use mathlib.Core.Path.{ap}
+use mathlib.Core.List.{List, _∷_}
 use native.Mathlib.Omega.{arith}
-use Rattle.landing.specs.Numbers.{four-words}
+use Rattle.landing.specs.Numbers.{replied, four-words}
 use borrow.Author.Needs.{needs}
 use Rattle.landing.proofs.tell_seven.Statement.{statement}
 use Rattle.landing.proofs.tell_seven.Tie as tie
@@ -19,7 +21,9 @@ array-read-t19 : tie.Need-array-read-t19
 array-read-t19 c = search needs
 
 returns : tie.Need-returns
-returns c = rw (four-words (c .before .args .t5) (omega arith)) refl
+returns c =
+    let a = c .before .args in
+    ap (λ (l : List ℕ). replied (a .number) (a .first ∷ a .second ∷ a .third ∷ l)) (four-words (a .t5) (omega arith))
 
 pub tell-seven-spec : {M : Type 1} → statement M
 tell-seven-spec =
