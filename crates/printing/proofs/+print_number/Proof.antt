@@ -29,7 +29,6 @@ print-number-below t =
     (falls 1 print-number-kinds.ps _<_ μ-print-number t)
     print-number.Pre
 
--- src/lib.rt:28:19
 print-number-digit-requires : (t : ℕ) → print-number-lts.Need-digit-requires (
   digit-reads.Asked,
   digit-reads.Learnt,
@@ -38,7 +37,6 @@ print-number-digit-requires : (t : ℕ) → print-number-lts.Need-digit-requires
 ) (print-number-at t) print-number.Post
 print-number-digit-requires t c κs = search needs
 
--- src/lib.rt:28:9
 print-number-slice-write-out : (t : ℕ) → print-number-lts.Need-slice-write-out (
   digit-reads.Asked,
   digit-reads.Learnt,
@@ -47,7 +45,6 @@ print-number-slice-write-out : (t : ℕ) → print-number-lts.Need-slice-write-o
 ) (print-number-at t) print-number.Post
 print-number-slice-write-out t c = omega (arith, length-digit (c .before .before .before .args .n) (c .before .if1 .taken), c .before .before .before .pre .1)
 
--- src/lib.rt:29:16
 print-number-add-result : (t : ℕ) → print-number-lts.Need-add-result (
   digit-reads.Asked,
   digit-reads.Learnt,
@@ -56,7 +53,6 @@ print-number-add-result : (t : ℕ) → print-number-lts.Need-add-result (
 ) (print-number-at t) print-number.Post
 print-number-add-result t c = search needs
 
--- src/lib.rt:29:9
 print-number-same-length : (t : ℕ) → print-number-lts.Need-same-length (
   digit-reads.Asked,
   digit-reads.Learnt,
@@ -65,7 +61,6 @@ print-number-same-length : (t : ℕ) → print-number-lts.Need-same-length (
 ) (print-number-at t) print-number.Post
 print-number-same-length t c = search needs
 
--- src/lib.rt:29:9
 print-number-returns : (t : ℕ) → print-number-lts.Need-returns (
   digit-reads.Asked,
   digit-reads.Learnt,
@@ -77,7 +72,6 @@ print-number-returns t c =
     let one : n < 10 = c .before .if1 .taken in
     (omega (arith, length-digit n one), digit-printed (now (c .before .before .before .args .out)) (c .before .before .before .args .at) n one (c .digit .ensures))
 
--- src/lib.rt:31:9
 print-number-print-number-requires : (t : ℕ) → print-number-lts.Need-print-number-requires (
   digit-reads.Asked,
   digit-reads.Learnt,
@@ -89,7 +83,6 @@ print-number-print-number-requires t c κs =
     let more : 10 ≤ n = c .before .if1 .left in
     (omega (arith, c .before .before .before .pre .0), omega (arith, length-more n more, c .before .before .before .pre .1))
 
--- src/lib.rt:32:17
 print-number-digit-requires-2 : (t : ℕ) → print-number-lts.Need-digit-requires-2 (
   digit-reads.Asked,
   digit-reads.Learnt,
@@ -98,7 +91,6 @@ print-number-digit-requires-2 : (t : ℕ) → print-number-lts.Need-digit-requir
 ) (print-number-at t) print-number.Post
 print-number-digit-requires-2 t c κs = search needs
 
--- src/lib.rt:32:5
 print-number-slice-write-out-2 : (t : ℕ) → print-number-lts.Need-slice-write-out-2 (
   digit-reads.Asked,
   digit-reads.Learnt,
@@ -111,7 +103,6 @@ print-number-slice-write-out-2 t c =
     let told = c .before .before .before .print-number .ensures in
     omega (arith, length-more n more, told .0, c .before .before .before .before .before .before .before .pre .1)
 
--- src/lib.rt:33:5
 print-number-add-result-2 : (t : ℕ) → print-number-lts.Need-add-result-2 (
   digit-reads.Asked,
   digit-reads.Learnt,
@@ -124,7 +115,6 @@ print-number-add-result-2 t c =
     let told = c .before .before .before .print-number .ensures in
     omega (arith, length-more n more, told .0, c .before .before .before .before .before .before .before .pre .1)
 
--- src/lib.rt:23:1
 print-number-same-length-2 : (t : ℕ) → print-number-lts.Need-same-length-2 (
   digit-reads.Asked,
   digit-reads.Learnt,
@@ -133,7 +123,6 @@ print-number-same-length-2 : (t : ℕ) → print-number-lts.Need-same-length-2 (
 ) (print-number-at t) print-number.Post
 print-number-same-length-2 t c = search needs
 
--- src/lib.rt:23:1
 print-number-returns-2 : (t : ℕ) → print-number-lts.Need-returns-2 (
   digit-reads.Asked,
   digit-reads.Learnt,

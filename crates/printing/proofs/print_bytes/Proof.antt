@@ -18,43 +18,33 @@ Inv-loop out₀ at text n j₀ out j = Copying out₀ at text n out j
 abbrev μ-loop : tie.MeasureT-loop
 μ-loop out₀ at text n j₀ out j = n - j
 
--- src/lib.rt:15:5
 loop-holds : tie.Need-loop-holds Inv-loop μ-loop
 loop-holds c = record { not-past = omega arith; long = refl; copies = copy-begins (c .args .at) (now (c .args .text)) _ (now (c .args .out)) }
 
--- src/lib.rt:16:23
 shared-slice-read-out : tie.Need-shared-slice-read-out Inv-loop μ-loop
 shared-slice-read-out c = search needs
 
--- src/lib.rt:16:13
 add-out : tie.Need-add-out Inv-loop μ-loop
 add-out c = search needs
 
--- src/lib.rt:16:9
 slice-write-out : tie.Need-slice-write-out Inv-loop μ-loop
 slice-write-out c = search needs
 
--- src/lib.rt:17:9
 add-j : tie.Need-add-j Inv-loop μ-loop
 add-j c = search needs
 
--- src/lib.rt:15:5
 loop-less : tie.Need-loop-less Inv-loop μ-loop
 loop-less c = search needs
 
--- src/lib.rt:15:5
 loop-again : tie.Need-loop-again Inv-loop μ-loop
 loop-again c = record { not-past = omega arith; long = simp length-set (c .before .before .loop .inv .long); copies = copy-goes-on (c .before .before .before .args .at) (now (c .before .before .before .args .text)) _ (c .before .before .loop .out) (c .before .before .loop .j) (omega arith) (omega arith) ∙ (c .before .before .loop .inv .copies) }
 
--- src/lib.rt:19:5
 add-result : tie.Need-add-result Inv-loop μ-loop
 add-result c = search needs
 
--- src/lib.rt:9:1
 same-length : tie.Need-same-length Inv-loop μ-loop
 same-length c = search needs
 
--- src/lib.rt:9:1
 returns : tie.Need-returns Inv-loop μ-loop
 returns c =
     let text = now (c .before .before .args .text) in
