@@ -1,6 +1,8 @@
-//! The bench table: its eleven cases run, and compared with what the table says.
+//! The bench table: its eleven cases run, compared with what the table says, and told in lines that
+//! crates/cases prints as well.
 
 use std::fmt::Debug;
+use std::ops::RangeInclusive;
 
 use crate::call::numbered;
 use crate::calls::{self, Reply, FULL, HELD, UNSOUND};
@@ -11,10 +13,12 @@ use crate::reading;
 use crate::slot::{Kind, Pair, Slot, GREATEST, LEAST};
 use crate::variant::Variant;
 
-/// A case that was run: what the table says in short, and where the run differs from it.
+/// A case that was run: what the table says in short, the lines that tell the run, and where it
+/// differs from the table.
 pub struct Ran {
     pub number: usize,
     pub says: &'static str,
+    pub lines: Vec<String>,
     pub differences: Vec<String>,
 }
 
@@ -55,81 +59,131 @@ const TABLE: [Row; 11] = [
 pub fn run(variant: Variant) -> Vec<Ran> {
     let mut ran = Vec::new();
     for (at, (says, case)) in TABLE.iter().enumerate() {
-        let mut bench = Bench::new(variant, 4, 2, 3);
+        let mut bench = Bench::new(variant);
         case(&mut bench);
         ran.push(Ran {
             number: at + 1,
             says,
+            lines: bench.lines,
             differences: bench.differences,
         });
     }
     ran
 }
 
-/// A store on the bench, the pages written so far, and the differences found.
+/// A store on the bench, the pages written so far, the lines told and the differences found.
 struct Bench {
     variant: Variant,
     geometry: Geometry,
     store: Vec<u32>,
     accepted: usize,
     pages: u32,
+    lines: Vec<String>,
     differences: Vec<String>,
 }
 
+/// Put or drop.
+type Edit = fn(Variant, &mut [u32], &mut [u32], Pair) -> Reply;
+
 impl Bench {
-    /// A bench with a formatted store; the table's geometries are all inside the ranges.
-    fn new(variant: Variant, head: u32, ratio: u32, levels: u32) -> Bench {
-        let geometry = Geometry::new(head, ratio, levels).expect("a geometry of the table");
+    /// A bench with the store of most cases, told by none of them yet.
+    fn new(variant: Variant) -> Bench {
+        let geometry = Geometry::new(4, 2, 3).expect("a geometry of the table");
         Bench {
             variant,
             geometry,
             store: formatted(geometry),
             accepted: 0,
             pages: 0,
+            lines: Vec::new(),
             differences: Vec::new(),
         }
     }
 
-    /// Puts another, formatted store on the bench.
+    /// Puts a formatted store on the bench, also under a false build that formats nothing; the
+    /// table's geometries are all inside the ranges.
     fn take(&mut self, head: u32, ratio: u32, levels: u32) {
-        *self = Bench::new(self.variant, head, ratio, levels);
+        let geometry = Geometry::new(head, ratio, levels).expect("a geometry of the table");
+        self.geometry = geometry;
+        self.store = formatted(geometry);
+        let reply = calls::format(self.variant, &mut self.store, head, ratio, levels);
+        self.tell(format!("format {geometry}: reply {}", reply.number));
     }
 
     /// Puts a pair.
     fn put(&mut self, badge: u32, floor: u32) -> Reply {
-        let mut work = numbered(0, self.geometry.work_words());
-        let pair = Pair { badge, floor };
-        let reply = calls::put(self.variant, &mut self.store, &mut work, pair);
-        self.count(&reply);
-        reply
+        self.put_all(badge..=badge, floor)
     }
 
     /// Puts these badges with one floor, and gives the last reply.
-    fn put_all(&mut self, badges: std::ops::RangeInclusive<u32>, floor: u32) -> Reply {
-        let replies = badges.map(|badge| self.put(badge, floor));
-        replies.last().expect("a range that is not empty")
+    fn put_all(&mut self, badges: RangeInclusive<u32>, floor: u32) -> Reply {
+        self.edit_all("put", calls::put, badges, floor)
     }
 
     /// Drops a pair.
     fn drop(&mut self, badge: u32, floor: u32) -> Reply {
-        let mut work = numbered(0, self.geometry.work_words());
-        let pair = Pair { badge, floor };
-        let reply = calls::drop(self.variant, &mut self.store, &mut work, pair);
-        self.count(&reply);
+        self.drop_all(badge..=badge, floor)
+    }
+
+    /// Drops these badges with one floor, and gives the last reply.
+    fn drop_all(&mut self, badges: RangeInclusive<u32>, floor: u32) -> Reply {
+        self.edit_all("drop", calls::drop, badges, floor)
+    }
+
+    /// Puts or drops these badges with one floor, tells the pages written and the last reply, and
+    /// gives it.
+    fn edit_all(
+        &mut self,
+        name: &str,
+        edit: Edit,
+        badges: RangeInclusive<u32>,
+        floor: u32,
+    ) -> Reply {
+        let written = self.pages;
+        let (first, last) = (*badges.start(), *badges.end());
+        let replies = badges.map(|badge| self.edit(edit, Pair { badge, floor }));
+        let reply = replies.last().expect("a range that is not empty");
+        let wrote = self.pages - written;
+        self.tell(format!(
+            "{name} {first} to {last} at {floor} wrote {wrote}: {}",
+            changed(&reply)
+        ));
         reply
     }
 
-    /// Asks for a pair.
-    fn ask(&self, badge: u32, floor: u32) -> Reply {
-        calls::ask(self.variant, &self.store, Pair { badge, floor })
-    }
-
-    /// Takes note of an accepted put or drop.
-    fn count(&mut self, reply: &Reply) {
+    /// Puts or drops a pair, and takes note of it if it was accepted.
+    fn edit(&mut self, edit: Edit, pair: Pair) -> Reply {
+        let mut work = numbered(0, self.geometry.work_words());
+        let reply = edit(self.variant, &mut self.store, &mut work, pair);
         if reply.number == 0 {
             self.accepted += 1;
             self.pages += reply.values[2];
         }
+        reply
+    }
+
+    /// Asks for a pair.
+    fn ask(&mut self, badge: u32, floor: u32) -> Reply {
+        self.ask_under("", badge, floor)
+    }
+
+    /// Asks for a pair, and tells it after some words.
+    fn ask_under(&mut self, words: &str, badge: u32, floor: u32) -> Reply {
+        let reply = calls::ask(self.variant, &self.store, Pair { badge, floor });
+        let told = with_names(&reply, &["held", "level"]);
+        self.tell(format!("{words}ask {badge} at {floor}: {told}"));
+        reply
+    }
+
+    /// Tells a slot by its words.
+    fn tell_slot(&mut self, name: &str, slot: &Slot) {
+        let [badge, floor, tag] = slot.words();
+        self.tell(format!("{name}: {badge} {floor} {tag}"));
+    }
+
+    /// Adds a line.
+    fn tell(&mut self, line: String) {
+        self.lines.push(line);
     }
 
     /// Compares what was given with what the table wants.
@@ -148,6 +202,32 @@ impl Bench {
     }
 }
 
+/// An accepted reply with its values named, or a refusal with its level.
+fn with_names(reply: &Reply, names: &[&str]) -> String {
+    let names = if reply.number == 0 { names } else { &["level"] };
+    let values = names.iter().zip(&reply.values);
+    let named: String = values
+        .map(|(name, value)| format!(" {name} {value}"))
+        .collect();
+    format!("reply {}{named}", reply.number)
+}
+
+/// The reply of a put or drop.
+fn changed(reply: &Reply) -> String {
+    let named = with_names(reply, &["live", "deepest", "pages"]);
+    let entries: String = reply
+        .values
+        .iter()
+        .skip(3)
+        .map(|n| format!(" {n}"))
+        .collect();
+    if reply.number == 0 {
+        format!("{named} entries{entries}")
+    } else {
+        named
+    }
+}
+
 /// The reply of an accepted call.
 fn done(values: &[u32]) -> Reply {
     let values = values.to_vec();
@@ -162,6 +242,7 @@ fn refused(number: u32) -> Reply {
 
 /// Case 1.
 fn case_1(bench: &mut Bench) {
+    bench.take(4, 2, 3);
     let third = bench.put_all(1..=3, 0);
     bench.wants("third put", third, done(&[3, 0, 0, 3, 0, 0, 0]));
     let fourth = bench.put(4, 0);
@@ -170,6 +251,7 @@ fn case_1(bench: &mut Bench) {
 
 /// Case 2.
 fn case_2(bench: &mut Bench) {
+    bench.take(4, 2, 3);
     bench.put_all(1..=4, 0);
     let drop = bench.drop(2, 0);
     bench.wants("drop 2", drop, done(&[3, 0, 0, 1, 4, 0, 0]));
@@ -179,21 +261,24 @@ fn case_2(bench: &mut Bench) {
 
 /// Case 3.
 fn case_3(bench: &mut Bench) {
+    bench.take(4, 2, 3);
     bench.put_all(1..=4, 0);
     bench.pages = 0;
-    let last = (1..=4).map(|badge| bench.drop(badge, 0)).last();
-    bench.wants("last drop", last, Some(done(&[0, 1, 1, 0, 0, 0, 0])));
+    let last = bench.drop_all(1..=4, 0);
+    bench.wants("last drop", last, done(&[0, 1, 1, 0, 0, 0, 0]));
     bench.wants("pages", bench.pages, 1);
 }
 
 /// Case 4.
 fn case_4(bench: &mut Bench) {
+    bench.take(4, 2, 3);
     bench.put_all(1..=8, 0);
     bench.wants_pages(4, 4);
 }
 
 /// Case 5.
 fn case_5(bench: &mut Bench) {
+    bench.take(4, 2, 3);
     bench.put_all(1..=16, 0);
     bench.wants_pages(8, 8);
     let full = bench.put(17, 0);
@@ -226,6 +311,9 @@ fn case_6(bench: &mut Bench) {
         page,
     };
     let head = reading::head(bench.geometry, &bench.store);
+    for (number, slot) in head.iter().enumerate() {
+        bench.tell_slot(&format!("head slot {number}"), slot);
+    }
     bench.wants("head", head, vec![fence(0, 0), fence(22, 1)]);
 }
 
@@ -234,12 +322,14 @@ fn case_7(bench: &mut Bench) {
     take_case_6(bench);
     let sound = bench.store.clone();
     for (badge, page, held) in [(21, 0, 1), (22, 1, 1), (43, 1, 0)] {
-        bench.wants("ask", bench.ask(badge, 0).values[0], held);
+        let answer = bench.ask(badge, 0);
+        bench.wants("ask", answer.values[0], held);
         for damaged in [0, 1] {
             let start = bench.geometry.page_start(1, damaged);
             bench.store[start] = 22;
             let number = if damaged == page { UNSOUND } else { 0 };
-            bench.wants("ask, damaged", bench.ask(badge, 0).number, number);
+            let answer = bench.ask_under(&format!("page {damaged} damaged: "), badge, 0);
+            bench.wants("ask, damaged", answer.number, number);
             bench.store = sound.clone();
         }
     }
@@ -251,8 +341,8 @@ fn case_8(bench: &mut Bench) {
     bench.put_all(1..=30, 5);
     bench.wants_pages(4, 9);
     let pages = reading::page_count(&bench.store, 1);
+    bench.tell(format!("level 1 has pages {pages}"));
     bench.wants("pages of level 1", pages, 2);
-    let first = reading::page(bench.geometry, &bench.store, 1, 1)[0];
     let fence = Slot {
         pair: Pair {
             badge: 21,
@@ -261,6 +351,8 @@ fn case_8(bench: &mut Bench) {
         kind: Kind::Internal,
         page: 0,
     };
+    let first = reading::page(bench.geometry, &bench.store, 1, 1)[0];
+    bench.tell_slot("level 1 page 1 slot 0", &first);
     bench.wants("first slot of page 1", first, fence);
 }
 
@@ -271,18 +363,23 @@ fn case_9(bench: &mut Bench) {
     bench.wants("tag", words[2], 1202);
     let read_back = Slot::of_words(words[0], words[1], words[2]);
     bench.wants("page read back", read_back.page, 300);
+    bench.tell(format!("tag {}", words[2]));
+    bench.tell(format!("page {}", read_back.page));
 }
 
 /// Case 10.
 fn case_10(bench: &mut Bench) {
+    bench.take(4, 2, 3);
     bench.put_all(1..=2, 0);
     let Pair { badge, floor } = GREATEST;
     let put = bench.put(badge, floor);
     bench.wants("put", put, done(&[3, 0, 0, 3, 0, 0, 0]));
-    bench.wants("ask", bench.ask(badge, floor), done(&[1, 0]));
+    let answer = bench.ask(badge, floor);
+    bench.wants("ask", answer, done(&[1, 0]));
     let drop = bench.drop(badge, floor);
     bench.wants("drop", drop, done(&[2, 0, 0, 2, 0, 0, 0]));
-    bench.wants("ask again", bench.ask(badge, floor), done(&[0, 3]));
+    let answer = bench.ask(badge, floor);
+    bench.wants("ask again", answer, done(&[0, 3]));
     bench.wants("pages", bench.pages, 0);
     bench.wants("first slot unused", bench.store[HEAD_SLOTS + 9], u32::MAX);
 }
@@ -293,6 +390,10 @@ fn case_11(bench: &mut Bench) {
     let mut slice = numbered(1000, 5);
     let pair = |badge: u32| Pair { badge, floor: 0 };
     let reply = calls::list(bench.variant, &bench.store, pair(1), pair(42), &mut slice);
+    let told = with_names(&reply, &["pairs", "mark"]);
+    bench.tell(format!("list 1 to 42: {told}"));
+    let words: String = slice.iter().map(|word| format!(" {word}")).collect();
+    bench.tell(format!("words{words}"));
     bench.wants("reply", reply, done(&[2, 1]));
     bench.wants("slice", slice, vec![1, 0, 2, 0, 1004]);
 }

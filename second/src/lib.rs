@@ -30,3 +30,4 @@ pub mod generate;
 pub mod pairs;
 pub mod random;
 pub mod replay;
+pub mod sheets;

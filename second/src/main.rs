@@ -11,13 +11,15 @@ use second::replay::Replay;
 use second::script::Script;
 use second::variant::Variant;
 use second::vectors::{self, Case, Tally};
-use second::{cases, sheet};
+use second::{cases, sheet, sheets};
 
 /// What is printed when a command line is not understood.
 const USAGE: &str = "usage:
   second vectors [--build NAME] FILE...
   second cases [--build NAME]
+  second case-lines
   second sheet < INPUT
+  second sheets FOLDER
   second sequences [--seed S] [--calls N] H,k,l...
   second damaged [--seed S] [--cases N]
   second script [--seed S] [--cases N] FOLDER FILE...
@@ -47,7 +49,9 @@ fn main() -> ExitCode {
     let outcome = take_apart(arguments).and_then(|line| match command.as_str() {
         "vectors" => run_vectors(&line),
         "cases" => run_cases(&line),
+        "case-lines" => print_case_lines(),
         "sheet" => run_sheet(),
+        "sheets" => write_sheets(&line),
         "sequences" => print_sequences(&line),
         "damaged" => print_damaged(&line),
         "script" => write_script(&line),
@@ -100,12 +104,40 @@ fn run_cases(line: &Line) -> Result<bool, String> {
     Ok(all_right)
 }
 
+/// Prints what crates/cases prints of the bench table.
+fn print_case_lines() -> Result<bool, String> {
+    let mut text = String::new();
+    for ran in cases::run(Variant::Right) {
+        text += &format!("case {}\n", ran.number);
+        text.extend(ran.lines.iter().map(|line| format!("{line}\n")));
+    }
+    print_bytes(text.as_bytes())
+}
+
 /// Runs the sheet program on standard input.
 fn run_sheet() -> Result<bool, String> {
     let mut input = Vec::new();
     let mut stdin = std::io::stdin();
     stdin.read_to_end(&mut input).map_err(|e| e.to_string())?;
     print_bytes(&sheet::run(&input))
+}
+
+/// Writes sheets one after another, each behind its length, as a folder's stdin, and what they print,
+/// each behind its number, as its stdout.
+fn write_sheets(line: &Line) -> Result<bool, String> {
+    let [folder] = &line.rest[..] else {
+        return Err(USAGE.to_string());
+    };
+    let faulty = sheets::faulty().into_iter().map(|(sheet, _)| sheet);
+    let (mut input, mut output) = (Vec::new(), Vec::new());
+    for (number, bytes) in sheets::good().into_iter().chain(faulty).enumerate() {
+        input.extend((bytes.len() as u32).to_le_bytes());
+        input.extend(&bytes);
+        output.extend(format!("sheet {}\n", number + 1).into_bytes());
+        output.extend(sheet::run(&bytes));
+    }
+    write_file(folder, "stdin", &input)?;
+    write_file(folder, "stdout", &output)
 }
 
 /// Prints a random sequence for each geometry.
@@ -151,13 +183,15 @@ fn write_script(line: &Line) -> Result<bool, String> {
         .flat_map(|n| n.to_le_bytes())
         .collect();
     let lines: String = script.lines.iter().map(|l| format!("{l}\n")).collect();
-    let write = |name: &str, bytes: &[u8]| {
-        let path = format!("{folder}/{name}");
-        std::fs::write(&path, bytes).map_err(|e| format!("{path}: {e}"))
-    };
-    write("stdin", &bytes)?;
-    write("stdout", lines.as_bytes())?;
-    Ok(true)
+    write_file(folder, "stdin", &bytes)?;
+    write_file(folder, "stdout", lines.as_bytes())
+}
+
+/// Writes a file of a folder.
+fn write_file(folder: &str, name: &str, bytes: &[u8]) -> Result<bool, String> {
+    let path = format!("{folder}/{name}");
+    let written = std::fs::write(&path, bytes);
+    written.map(|()| true).map_err(|e| format!("{path}: {e}"))
 }
 
 /// Prints the digests of a replay for each geometry.

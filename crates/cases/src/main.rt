@@ -1,0 +1,323 @@
+// Runs the bench table's eleven cases with the public calls, and prints the replies and figures that the table speaks of. second/src/cases.rs
+// makes the same calls, compares them with the table, and writes the same lines.
+use geometry::Geometry;
+use geometry::HEAD_START;
+use geometry::PAGE_COUNTS;
+use geometry::PAGE_WORDS;
+use geometry::SLOT_WORDS;
+use index::Asked;
+use index::Changed;
+use index::Edited;
+use index::Formatted;
+use index::Shown;
+use libc::STDOUT_FILENO;
+use slot::Kind;
+use slot::Pair;
+use slot::Pid;
+use slot::Rid;
+
+// A badge or floor above all others.
+const GREATEST: u32 = 4294967295;
+
+// Where level 1 begins in a store of 21, 2, 2 and of 10, 4, 3: after H + Pg(1) head slots.
+const LEVEL_1_OF_21_2_2: usize = 78;
+
+const LEVEL_1_OF_10_4_3: usize = 48;
+
+pub enum Op {
+    Put,
+    Drop,
+}
+
+fn main() {
+    let mut store = [0u32; 152];
+    let mut work = [0u32; 64];
+    case_1(&mut store, &mut work);
+    case_2(&mut store, &mut work);
+    case_3(&mut store, &mut work);
+    case_4(&mut store, &mut work);
+    case_5(&mut store, &mut work);
+    let mut two_pages = [0u32; 206];
+    let mut two_page_work = [0u32; 128];
+    case_6(&mut two_pages, &mut two_page_work);
+    case_7(&mut two_pages, &mut two_page_work);
+    let mut inner_fence = [0u32; 752];
+    let mut inner_fence_work = [0u32; 512];
+    case_8(&mut inner_fence, &mut inner_fence_work);
+    case_9();
+    case_10(&mut store, &mut work);
+    case_11(&mut two_pages, &mut two_page_work);
+}
+
+// 4,2,3: put badges 1..4: the fourth merges into level 1, one page.
+fn case_1(store: &mut [u32], work: &mut [u32]) {
+    begin(1, store, 4, 2, 3);
+    edit_all(store, work, Op::Put, 1, 3, 0);
+    edit_all(store, work, Op::Put, 4, 4, 0);
+}
+
+// Then drop 2: live 3, head 1; put 2: live 4, head 0, no merge.
+fn case_2(store: &mut [u32], work: &mut [u32]) {
+    begin(2, store, 4, 2, 3);
+    edit_all(store, work, Op::Put, 1, 4, 0);
+    edit_all(store, work, Op::Drop, 2, 2, 0);
+    edit_all(store, work, Op::Put, 2, 2, 0);
+}
+
+// After 1, drop 1..4: live 0, level 1 has 0 entries, one page written.
+fn case_3(store: &mut [u32], work: &mut [u32]) {
+    begin(3, store, 4, 2, 3);
+    edit_all(store, work, Op::Put, 1, 4, 0);
+    edit_all(store, work, Op::Drop, 1, 4, 0);
+}
+
+// 4,2,3: put 1..8: pages 4 in all.
+fn case_4(store: &mut [u32], work: &mut [u32]) {
+    begin(4, store, 4, 2, 3);
+    edit_all(store, work, Op::Put, 1, 8, 0);
+}
+
+// Put 1..16: pages 8. Put 17: reply 4. Put 16: reply 2. Drop 1, put 17: done.
+fn case_5(store: &mut [u32], work: &mut [u32]) {
+    begin(5, store, 4, 2, 3);
+    edit_all(store, work, Op::Put, 1, 16, 0);
+    edit_all(store, work, Op::Put, 17, 17, 0);
+    edit_all(store, work, Op::Put, 16, 16, 0);
+    edit_all(store, work, Op::Drop, 1, 1, 0);
+    edit_all(store, work, Op::Put, 17, 17, 0);
+}
+
+// 21,2,2: put 1..42: pages 1, then 2; head fences (0,0) to page 0 and (22,0) to page 1.
+fn case_6(store: &mut [u32], work: &mut [u32]) {
+    begin(6, store, 21, 2, 2);
+    edit_all(store, work, Op::Put, 1, 21, 0);
+    edit_all(store, work, Op::Put, 22, 42, 0);
+    slot_line(b"head slot 0: ", store, HEAD_START);
+    slot_line(b"head slot 1: ", store, HEAD_START + SLOT_WORDS);
+}
+
+// There, ask 21 reads page 0, ask 22 page 1, ask 43 page 1 and says no: a page is read exactly if damage to its slot count is told.
+fn case_7(store: &mut [u32], work: &mut [u32]) {
+    begin(7, store, 21, 2, 2);
+    edit_all(store, work, Op::Put, 1, 42, 0);
+    ask_pages(store, 21);
+    ask_pages(store, 22);
+    ask_pages(store, 43);
+}
+
+// 10,4,3: put 1..30, floor 5: level 1 has two pages; the second opens with internal fence (21,5) to page 0; pages 4.
+fn case_8(store: &mut [u32], work: &mut [u32]) {
+    begin(8, store, 10, 4, 3);
+    edit_all(store, work, Op::Put, 1, 30, 5);
+    number_line(b"level 1 has pages ", word_at(store, PAGE_COUNTS + 1));
+    slot_line(
+        b"level 1 page 1 slot 0: ",
+        store,
+        LEVEL_1_OF_10_4_3 + PAGE_WORDS + 1,
+    );
+}
+
+// A fence to page 300 has tag 1202, and reads back as 300.
+fn case_9() {
+    number_line(b"case ", 9);
+    let tag = slot::tag_of(Kind::External, Pid(300));
+    number_line(b"tag ", tag);
+    let page = slot::page_of(tag);
+    number_line(b"page ", page.0);
+}
+
+// Fewer than H puts: pages 0. Pair (4294967295, 4294967295) is put, asked and dropped.
+fn case_10(store: &mut [u32], work: &mut [u32]) {
+    begin(10, store, 4, 2, 3);
+    edit_all(store, work, Op::Put, 1, 2, 0);
+    edit_all(store, work, Op::Put, GREATEST, GREATEST, GREATEST);
+    ask_line(store, GREATEST, GREATEST);
+    edit_all(store, work, Op::Drop, GREATEST, GREATEST, GREATEST);
+    ask_line(store, GREATEST, GREATEST);
+}
+
+// List 1..42 of case 6 into 5 words: two pairs, mark 1, fifth word as before.
+fn case_11(store: &mut [u32], work: &mut [u32]) {
+    begin(11, store, 21, 2, 2);
+    edit_all(store, work, Op::Put, 1, 42, 0);
+    let mut slice = [1000, 1001, 1002, 1003, 1004];
+    list_line(store, 1, 42, &mut slice);
+    print(b"words");
+    let mut i = 0;
+    while i < 5 {
+        print_number(b" ", slice[i]);
+        i += 1;
+    }
+    print(b"\n");
+}
+
+// The case's number, and the store of the empty set.
+fn begin(case: u32, store: &mut [u32], head: u32, ratio: u32, levels: u32) {
+    number_line(b"case ", case);
+    let reply = match index::format(
+        store,
+        Geometry {
+            head,
+            ratio,
+            levels,
+        },
+    ) {
+        Formatted::Done => 0,
+        Formatted::Range => 1,
+        Formatted::Length => 5,
+    };
+    print_number(b"format ", head);
+    print_number(b",", ratio);
+    print_number(b",", levels);
+    number_line(b": reply ", reply);
+}
+
+// Puts or drops the badges from a first to a last at one floor, and prints the pages written in all and the last reply.
+fn edit_all(store: &mut [u32], work: &mut [u32], op: Op, first: u32, last: u32, floor: u32) {
+    let mut pages = 0;
+    let mut badge = first;
+    while badge < last {
+        let changed = edit(store, work, op, badge, floor);
+        pages = std::num::wrapping_add_u32(pages, pages_of(changed));
+        badge += 1;
+    }
+    let changed = edit(store, work, op, last, floor);
+    match op {
+        Op::Put => print_number(b"put ", first),
+        Op::Drop => print_number(b"drop ", first),
+    }
+    print_number(b" to ", last);
+    print_number(b" at ", floor);
+    print_number(
+        b" wrote ",
+        std::num::wrapping_add_u32(pages, pages_of(changed)),
+    );
+    changed_line(changed);
+}
+
+fn edit(store: &mut [u32], work: &mut [u32], op: Op, badge: u32, floor: u32) -> Changed {
+    match op {
+        Op::Put => index::put(store, work, pair(badge, floor)),
+        Op::Drop => index::drop(store, work, pair(badge, floor)),
+    }
+}
+
+fn pages_of(changed: Changed) -> u32 {
+    let answer = changed.answer;
+    match answer {
+        Edited::Done(_, _, pages) => pages,
+        _ => 0,
+    }
+}
+
+fn changed_line(changed: Changed) {
+    let answer = changed.answer;
+    match answer {
+        Edited::Done(live, deepest, pages) => done_line(live, deepest, pages, changed.entries),
+        Edited::Range => refusal_line(1, 0),
+        Edited::Length => refusal_line(5, 0),
+        Edited::Fault(level) => refusal_line(6, level),
+        Edited::Held => refusal_line(2, 0),
+        Edited::Missing => refusal_line(3, 0),
+        Edited::Full => refusal_line(4, 0),
+    }
+}
+
+fn done_line(live: u32, deepest: u32, pages: u32, entries: [u32; 4]) {
+    print_number(b": reply 0 live ", live);
+    print_number(b" deepest ", deepest);
+    print_number(b" pages ", pages);
+    print_number(b" entries ", entries[0]);
+    print_number(b" ", entries[1]);
+    print_number(b" ", entries[2]);
+    number_line(b" ", entries[3]);
+}
+
+fn refusal_line(reply: u32, level: u32) {
+    print_number(b": reply ", reply);
+    number_line(b" level ", level);
+}
+
+// Asks for a badge with every page as it is, and then with page 0 and with page 1 of level 1 damaged.
+fn ask_pages(store: &mut [u32], badge: u32) {
+    ask_line(store, badge, 0);
+    print(b"page 0 damaged: ");
+    ask_damaged(store, badge, LEVEL_1_OF_21_2_2);
+    print(b"page 1 damaged: ");
+    ask_damaged(store, badge, LEVEL_1_OF_21_2_2 + PAGE_WORDS);
+}
+
+// Asks for a badge with the slot count at a place above 21, and mends it again.
+fn ask_damaged(store: &mut [u32], badge: u32, place: usize) {
+    if store.len() <= place {
+        return;
+    }
+    let count = store[place];
+    store[place] = 22;
+    ask_line(store, badge, 0);
+    store[place] = count;
+}
+
+fn ask_line(store: &[u32], badge: u32, floor: u32) {
+    print_number(b"ask ", badge);
+    print_number(b" at ", floor);
+    match index::ask(store, pair(badge, floor)) {
+        Asked::Answer(held, level) => {
+            print_number(b": reply 0 held ", if held { 1 } else { 0 });
+            number_line(b" level ", level);
+        }
+        Asked::Range => refusal_line(1, 0),
+        Asked::Length => refusal_line(5, 0),
+        Asked::Fault(level) => refusal_line(6, level),
+    }
+}
+
+fn list_line(store: &[u32], first: u32, last: u32, slice: &mut [u32]) {
+    print_number(b"list ", first);
+    print_number(b" to ", last);
+    match index::list(store, pair(first, 0), pair(last, 0), slice) {
+        Shown::Pairs(pairs, mark) => {
+            print_number(b": reply 0 pairs ", pairs);
+            number_line(b" mark ", mark);
+        }
+        Shown::Range => refusal_line(1, 0),
+        Shown::Length => refusal_line(5, 0),
+        Shown::Fault(level) => refusal_line(6, level),
+    }
+}
+
+// The three words of the slot at a place.
+fn slot_line(name: &[u8], store: &[u32], place: usize) {
+    print_number(name, word_at(store, place));
+    print_number(b" ", word_at(store, place + 1));
+    number_line(b" ", word_at(store, place + 2));
+}
+
+// The word at a place, 0 past the end.
+fn word_at(store: &[u32], place: usize) -> u32 {
+    if store.len() <= place {
+        return 0;
+    }
+    store[place]
+}
+
+fn pair(badge: u32, floor: u32) -> Pair {
+    Pair {
+        badge,
+        floor: Rid(floor),
+    }
+}
+
+fn number_line(name: &[u8], n: u32) {
+    print_number(name, n);
+    print(b"\n");
+}
+
+fn print_number(name: &[u8], n: u32) {
+    print(name);
+    io::print_decimal(STDOUT_FILENO, n as u64);
+}
+
+fn print(text: &[u8]) {
+    io::write_all(STDOUT_FILENO, text);
+}
