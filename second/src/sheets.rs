@@ -9,14 +9,14 @@ use crate::slot::{Pair, GREATEST};
 /// The first three lines of most sheets here.
 pub const START: &str = "head=4\nratio=2\nlevels=3\n";
 
-/// A geometry and how many random requests a sheet makes of it.
+/// The geometries of sheets of random requests, and how many calls they are made from.
 const RANDOM: [([u32; 3], usize); 6] = [
     ([1, 2, 2], 100),
-    ([1, 2, 4], 400),
-    ([4, 2, 3], 400),
+    ([1, 2, 4], 300),
+    ([4, 2, 3], 300),
     ([21, 2, 2], 300),
-    ([10, 4, 3], 500),
-    ([27, 3, 4], 500),
+    ([10, 4, 3], 700),
+    ([27, 3, 4], 700),
 ];
 
 /// Faults of the first three lines, with the number of the first faulty line.
@@ -178,8 +178,8 @@ pub fn good() -> Vec<Vec<u8>> {
     for geometry in [[1, 2, 2], [64, 8, 2], [1, 2, 4], [27, 3, 4]] {
         sheets.push(first_lines(geometry));
     }
-    for (seed, (geometry, requests)) in RANDOM.iter().enumerate() {
-        sheets.push(random(seed as u64, *geometry, *requests));
+    for (seed, (geometry, calls)) in RANDOM.iter().enumerate() {
+        sheets.push(random(seed as u64, *geometry, *calls));
     }
     sheets.into_iter().map(String::into_bytes).collect()
 }
@@ -207,13 +207,18 @@ fn first_lines([head, ratio, levels]: [u32; 3]) -> String {
     format!("head={head}\nratio={ratio}\nlevels={levels}\n")
 }
 
-/// A sheet of random requests.
-fn random(seed: u64, geometry: [u32; 3], requests: usize) -> String {
+/// A sheet of random requests, as many as it has room for.
+fn random(seed: u64, geometry: [u32; 3], calls: usize) -> String {
     let [head, ratio, levels] = geometry;
     let sized = Geometry::new(head, ratio, levels).expect("a geometry in its ranges");
-    let calls = sequence(seed, 0, sized, requests).calls;
-    let groups: String = calls.into_iter().filter_map(request).collect();
-    first_lines(geometry) + &groups
+    let mut sheet = first_lines(geometry);
+    for call in sequence(seed, 0, sized, calls).calls {
+        let group = request(call).unwrap_or_default();
+        if sheet.len() + group.len() <= sheet::MOST_BYTES {
+            sheet += &group;
+        }
+    }
+    sheet
 }
 
 /// The group of a call that a sheet can make.

@@ -1,5 +1,6 @@
 // Runs the bench table's eleven cases with the public calls, and prints the replies and figures that the table speaks of. second/src/cases.rs
 // makes the same calls, compares them with the table, and writes the same lines.
+ghost use Prim.Native.Nat.{_≤_};
 use geometry::Geometry;
 use geometry::HEAD_START;
 use geometry::PAGE_COUNTS;
@@ -77,10 +78,15 @@ fn case_4(store: &mut [u32], work: &mut [u32]) {
     edit_all(store, work, Op::Put, 1, 8, 0);
 }
 
-// Put 1..16: pages 8. Put 17: reply 4. Put 16: reply 2. Drop 1, put 17: done.
+// Put 1..16: pages 8.
 fn case_5(store: &mut [u32], work: &mut [u32]) {
     begin(5, store, 4, 2, 3);
     edit_all(store, work, Op::Put, 1, 16, 0);
+    when_full(store, work);
+}
+
+// Put 17: reply 4. Put 16: reply 2. Drop 1, put 17: done.
+fn when_full(store: &mut [u32], work: &mut [u32]) {
     edit_all(store, work, Op::Put, 17, 17, 0);
     edit_all(store, work, Op::Put, 16, 16, 0);
     edit_all(store, work, Op::Drop, 1, 1, 0);
@@ -143,11 +149,7 @@ fn case_11(store: &mut [u32], work: &mut [u32]) {
     let mut slice = [1000, 1001, 1002, 1003, 1004];
     list_line(store, 1, 42, &mut slice);
     print(b"words");
-    let mut i = 0;
-    while i < 5 {
-        print_number(b" ", slice[i]);
-        i += 1;
-    }
+    print_words(&slice);
     print(b"\n");
 }
 
@@ -182,17 +184,24 @@ fn edit_all(store: &mut [u32], work: &mut [u32], op: Op, first: u32, last: u32, 
         badge += 1;
     }
     let changed = edit(store, work, op, last, floor);
+    edits_line(
+        op,
+        first,
+        last,
+        floor,
+        std::num::wrapping_add_u32(pages, pages_of(changed)),
+    );
+    changed_line(changed);
+}
+
+fn edits_line(op: Op, first: u32, last: u32, floor: u32, pages: u32) {
     match op {
         Op::Put => print_number(b"put ", first),
         Op::Drop => print_number(b"drop ", first),
     }
     print_number(b" to ", last);
     print_number(b" at ", floor);
-    print_number(
-        b" wrote ",
-        std::num::wrapping_add_u32(pages, pages_of(changed)),
-    );
-    changed_line(changed);
+    print_number(b" wrote ", pages);
 }
 
 fn edit(store: &mut [u32], work: &mut [u32], op: Op, badge: u32, floor: u32) -> Changed {
@@ -212,8 +221,9 @@ fn pages_of(changed: Changed) -> u32 {
 
 fn changed_line(changed: Changed) {
     let answer = changed.answer;
+    let entries = changed.entries;
     match answer {
-        Edited::Done(live, deepest, pages) => done_line(live, deepest, pages, changed.entries),
+        Edited::Done(live, deepest, pages) => done_line(live, deepest, pages, entries),
         Edited::Range => refusal_line(1, 0),
         Edited::Length => refusal_line(5, 0),
         Edited::Fault(level) => refusal_line(6, level),
@@ -286,8 +296,18 @@ fn list_line(store: &[u32], first: u32, last: u32, slice: &mut [u32]) {
     }
 }
 
+fn print_words(words: &[u32]) {
+    let mut i = 0;
+    while i < words.len() {
+        print_number(b" ", words[i]);
+        i += 1;
+    }
+}
+
 // The three words of the slot at a place.
-fn slot_line(name: &[u8], store: &[u32], place: usize) {
+fn slot_line(name: &[u8], store: &[u32], place: usize)
+    requires { ⌜ place ≤ 752 ⌝ }
+{
     print_number(name, word_at(store, place));
     print_number(b" ", word_at(store, place + 1));
     number_line(b" ", word_at(store, place + 2));
