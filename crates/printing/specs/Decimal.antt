@@ -62,7 +62,7 @@ length-digit n h = ap length (decimal-digit n h)
 pub length-more : (n : ℕ) → 10 ≤ n → length (decimal n) ≡ length (decimal (n / 10)) + 1
 length-more n h = ap length (decimal-more n h) ∙ length-append (decimal (n / 10)) (digitCode (n % 10) ∷ [])
 
--- There is a digit at least, and below a power of ten no more than its exponent; so a word has ten at most.
+-- There is a digit at least, and below a power of ten no more than its exponent; so a word has ten at most, and 64 bits twenty.
 pub digits-some : (n : ℕ) → 1 ≤ length (decimal n)
 digits-some n = picked (ltb n 10) refl
   where
@@ -83,3 +83,6 @@ digits-below (suc k) n h = picked (ltb n 10) refl (digits-below k (n / 10))
 
 pub word-digits : (n : ℕ) → n < 4294967296 → length (decimal n) ≤ 10
 word-digits n h = digits-below 9 n (omega arith)
+
+pub long-digits : (n : ℕ) → n < 18446744073709551616 → length (decimal n) ≤ 20
+long-digits n h = digits-below 19 n (omega arith)

@@ -20,7 +20,7 @@ pub fn print_bytes(out: &mut [u8], at: usize, text: &[u8]) -> usize
 }
 
 // Puts a number into the buffer from a place on, in decimal without leading zeros, and gives the place after it.
-pub fn print_number(out: &mut [u8], at: usize, n: u32) -> usize
+pub fn print_number(out: &mut [u8], at: usize, n: u64) -> usize
     requires { ⌜ at + length (decimal n) ≤ length (now out) ⌝ }
     ensures { λ r. ⌜ (r ≡ at + length (decimal n)) × (now (out .exit) ≡ sets (now (out .entry)) at (decimal n)) ⌝ }
 {
@@ -34,7 +34,7 @@ pub fn print_number(out: &mut [u8], at: usize, n: u32) -> usize
 }
 
 // The ASCII code of a digit.
-fn digit(d: u32) -> u8
+fn digit(d: u64) -> u8
     requires { ⌜ d < 10 ⌝ }
     ensures { λ r. ⌜ r ≡ 48 + d ⌝ }
 {

@@ -1,0 +1,2 @@
+-- A number of four bytes.
+pub mod Word
