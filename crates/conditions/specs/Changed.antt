@@ -1,0 +1,176 @@
+-- An accepted put or drop on the writing of a good state: what it leaves is the writing of the state that the rules give, with their numbers.
+-- Assumes nothing.
+use Prim.Native.Nat.{ℕ, zero, suc, _≤_, _<_}
+use native.Mathlib.Omega.{arith}
+use mathlib.Core.Path.{_≡_, refl, sym, ap, _∙_}
+use mathlib.Core.Bool.{Bool, true, false, not, _&&_}
+use mathlib.Core.List.{List, [], _∷_}
+use lib.ListN.{length, getD, replicate}
+use lib.Dec.{ltb, leb, eqb}
+use borrow.Author.Tests.{eq-eqb, ne-eqb, lt-ltb, le-ltb, ltb-true, leb-true, leb-false}
+use Rattle.laws.specs.Lists.{all, all-at}
+use Rattle.geometry.specs.declared.Geometry.{Geometry}
+use Rattle.geometry.specs.Geometry.{InRange, bottom, capacity, most}
+use Rattle.geometry.specs.Places.{liveWord, erased, headRoom}
+use Rattle.geometry.specs.Bounds.{capacity-zero}
+use Rattle.slot.specs.declared.Pair.{Pair}
+use Rattle.slot.specs.Pair.{Words}
+use Rattle.rules.specs.Tree.{Entry, Level, Tree, level}
+use Rattle.rules.specs.Level.{slotsOf}
+use Rattle.rules.specs.Finding.{Met, absent, met, find, held}
+use Rattle.rules.specs.Merging.{State, Settled, toggle, toggleHead, edit, entries}
+use Rattle.rules.specs.Store.{writing}
+use Rattle.rules.specs.Sound.{headSlots, entriesOf, treeOf, ascending, sound}
+use Rattle.rules.specs.Good.{Good, Cascading}
+use Rattle.entries.specs.Ascending.{from-ascending}
+use Rattle.finding.specs.Asked.{decider}
+use Rattle.finding.specs.Formed.{directory-right, head-right}
+use Rattle.good.specs.Edit.{entry, put-cascading, drop-cascading}
+use Rattle.good.specs.Settle.{settle-good}
+use Rattle.good.specs.Within.{within-upper}
+use Rattle.edited.specs.Written.{added-written, removed-written}
+use Rattle.promises.specs.Written.{good-fits, good-reads, good-tree, good-sound}
+use Rattle.change.specs.Change.{liveAfter, toggledBehind, editedBehind, headEdited, fillsHead, Changed, changedHead, changedTree, changeOf, change-merges, change-edits, merge-goes-on}
+use Rattle.change.specs.Head.{head-has-room}
+use Rattle.conditions.specs.Settled.{toggle-adds, toggle-takes, head-decides, below-decides, head-stays, head-merges}
+
+-- The work area after a call: all ones where it merged, else as it was.
+unfoldable pub workAfter : ℕ → List ℕ → List ℕ
+workAfter zero work = work
+workAfter (suc deepest) work = replicate (length work) erased
+
+-- What the rules give an accepted put or drop, in words.
+unfoldable pub ruledChange : Geometry → ℕ → Settled → List ℕ → Changed
+ruledChange g live s work = record {
+  fault = sound;
+  values = live ∷ s .deepest ∷ length (s .written) ∷ entries (s .tree);
+  store = writing g (record { live = live; tree = s .tree });
+  work = workAfter (s .deepest) work;
+}
+
+merged-work : (deepest : ℕ) (work : List ℕ) → 1 ≤ deepest → workAfter deepest work ≡ replicate (length work) erased
+unfolding workAfter
+merged-work zero work h = absurd (omega arith)
+merged-work (suc deepest) work h = refl
+
+toggled-head : (e : Entry) (t : Tree) → 1 ≤ length t → level 0 (toggleHead e t) ≡ toggle e (level 0 t)
+unfolding toggleHead
+toggled-head e [] h = absurd (omega arith)
+toggled-head e (es ∷ t) h = refl
+
+-- A pair that is held just if it is dropped, and room for it if it is put.
+module _ (g : Geometry) (fit : InRange g) (s : State) (good : Good g s) (p : Pair) (normal : Bool) (pair : Words p) (h : held p (s .tree) ≡ not normal)
+    (room : normal ≡ true → s .live < most g) where
+  abbrev w : List ℕ
+  w = writing g s
+
+  abbrev t : Tree
+  t = s .tree
+
+  abbrev e : Entry
+  e = entry p normal
+
+  abbrev live : ℕ
+  live = liveAfter normal (s .live)
+
+  abbrev begun : State
+  begun = record { live = live; tree = toggleHead e t }
+
+  abbrev ended : State
+  ended = record { live = live; tree = (edit g e t) .tree }
+
+  abbrev own : Bool
+  own = eqb (decider p t) 0
+
+  pub change-cascades : Cascading g 0 begun
+  unfolding liveAfter
+  change-cascades = by-kind normal refl
+    where
+      by-kind : (b : Bool) → normal ≡ b → Cascading g 0 (record { live = liveAfter normal (s .live); tree = toggleHead (entry p normal) t })
+      by-kind true k = rw k (put-cascading g fit p s good pair (h ∙ ap not k) (room k))
+      by-kind false k = rw k (drop-cascading g fit p s good pair (h ∙ ap not k))
+
+  ended-good : Good g ended
+  unfolding edit
+  ended-good = settle-good g fit (bottom g) 0 begun change-cascades (omega arith)
+
+  some-levels : 1 ≤ length t
+  some-levels = omega (arith, good .levels, fit .levels-least)
+
+  -- The head's own entries, as they are read and as there are.
+  head-read : entriesOf (headSlots g w) ≡ level 0 t
+  unfolding treeOf
+  head-read = ap (level 0) (good-tree g s fit good)
+
+  live-read : getD w liveWord 0 ≡ s .live
+  live-read = good-reads g s fit good .live-pairs
+
+  few : length (level 0 t) < capacity g 0
+  few =
+      ltb-true (length (level 0 t)) (capacity g 0)
+      (sym (within-upper g 0 (length (level 0 t)) (omega (arith, fit .levels-least))) ∙ good .within 0 (omega (arith, fit .levels-least)))
+
+  -- A head that is full once the entry is in it is merged on, and the work area used.
+  merged : (work : List ℕ) → find p (level 0 t) ≡ absent → g .head ≤ suc (length (level 0 t)) → changedTree g e w work ≡ ruledChange g live (edit g e t) work
+  unfolding changedTree ruledChange edit
+  merged work f full =
+      let grown : length (level 0 (toggleHead e t)) ≡ suc (length (level 0 t)) = ap length (toggled-head e t some-levels) ∙ toggle-adds e (level 0 t) f in
+      let sinks = head-merges g (bottom g) (toggleHead e t) (omega (arith, fit .levels-least))
+      (le-ltb (length (level 0 (toggleHead e t))) (capacity g 0) (omega (arith, grown, full, capacity-zero g))) in
+      rw (live-read, good-tree g s fit good, good-tree g ended fit ended-good, merged-work ((edit g e t) .deepest) work sinks) refl
+
+  -- Any other is edited, and nothing else changes.
+  module _ (stays : ltb (length (level 0 (toggleHead e t))) (capacity g 0) ≡ true) where
+    edited-stays : edit g e t ≡ record { tree = toggleHead e t; deepest = 0; written = [] }
+    unfolding edit
+    edited-stays = head-stays g (bottom g) (toggleHead e t) (omega (arith, fit .levels-least)) stays
+
+    begun-good : Good g begun
+    begun-good = rw edited-stays at ended-good
+
+    edited : (work : List ℕ) (b : Bool) → headEdited g e b w ≡ writing g begun → changedHead g e b w work ≡ ruledChange g live (edit g e t) work
+    unfolding changedHead ruledChange workAfter
+    edited work b v = rw (live-read, v, edited-stays, good-tree g begun fit begun-good) refl
+
+  added : find p (level 0 t) ≡ absent → headEdited g e false w ≡ writing g begun
+  unfolding headEdited editedBehind toggledBehind
+  added f = rw live-read (added-written g s e live fit (good-fits g s fit good) (good .ascends) f roomy)
+    where
+      roomy : suc (length (getD (slotsOf t) 0 [])) ≤ headRoom g
+      roomy =
+          let fits = good-fits g s fit good in
+          let reads = good-reads g s fit good in
+          omega (arith, head-has-room g w fit (directory-right g s w fit good fits reads) (head-right g s w fit good fits reads), ap length (reads .head-slots))
+
+  removed : (b : Bool) → find p (level 0 t) ≡ met b → headEdited g e true w ≡ writing g begun
+  unfolding headEdited editedBehind toggledBehind
+  removed b f = rw live-read (removed-written g s e live fit (good-fits g s fit good) (good .ascends) b f)
+
+  -- So in either case.
+  pub change-written : (work : List ℕ) → changeOf g e own w work ≡ ruledChange g live (edit g e t) work
+  unfolding fillsHead
+  change-written work = by-entry (find p (level 0 t)) refl
+    where
+      shorter : length (level 0 (toggleHead e t)) < capacity g 0 → ltb (length (level 0 (toggleHead e t))) (capacity g 0) ≡ true
+      shorter = lt-ltb (length (level 0 (toggleHead e t))) (capacity g 0)
+
+      by-count : (b : Bool) → leb (g .head) (suc (length (level 0 t))) ≡ b → find p (level 0 t) ≡ absent → own ≡ false →
+          changeOf g e own w work ≡ ruledChange g live (edit g e t) work
+      by-count true c f o =
+          sym (change-merges g e w work own (rw (o, head-read, c) refl)) ∙ sym (merge-goes-on g e w work (good-sound g s fit good)) ∙
+          merged work f (leb-true (g .head) (suc (length (level 0 t))) c)
+      by-count false c f o =
+          let grown : length (level 0 (toggleHead e t)) ≡ suc (length (level 0 t)) = ap length (toggled-head e t some-levels) ∙ toggle-adds e (level 0 t) f in
+          let less : suc (length (level 0 t)) < g .head = leb-false (g .head) (suc (length (level 0 t))) c in
+          sym (change-edits g e w work own (rw (o, head-read, c) refl)) ∙
+          edited (shorter (omega (arith, grown, less, capacity-zero g))) work own (rw o (added f))
+
+      by-entry : (m : Met) → find p (level 0 t) ≡ m → changeOf g e own w work ≡ ruledChange g live (edit g e t) work
+      by-entry absent f =
+          by-count (leb (g .head) (suc (length (level 0 t)))) refl f (ne-eqb (decider p t) 0 (λ q. omega (arith, q, below-decides p t some-levels f)))
+      by-entry (met b) f =
+          let o : own ≡ true = eq-eqb (decider p t) 0 (head-decides p t b f) in
+          let rises = from-ascending (level 0 t) (all-at ascending t 0 [] (good .ascends) some-levels) in
+          let lost : suc (length (level 0 (toggleHead e t))) ≡ length (level 0 t) =
+          ap (λ (l : Level). suc (length l)) (toggled-head e t some-levels) ∙ toggle-takes e 0 (level 0 t) b rises f in
+          sym (change-edits g e w work own (rw o refl)) ∙ edited (shorter (omega (arith, lost, few))) work own (rw o (removed b f))

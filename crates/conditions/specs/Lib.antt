@@ -1,0 +1,3 @@
+-- Conditions 2 and 3 on the calls.
+pub mod Settled
+pub mod Changed
