@@ -1,3 +1,9 @@
 -- Conditions 2 and 3 on the calls.
+pub mod Calls
+pub mod Lengths
+pub mod Plain
+pub mod Ruled
+pub mod Reports
 pub mod Settled
 pub mod Changed
+pub mod Opened

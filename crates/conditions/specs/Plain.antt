@@ -1,0 +1,83 @@
+-- The same calls on a plain set of pairs, an ascending list of at most so many. It knows of no level, page or fence. Assumes nothing.
+use Prim.Native.Nat.{ℕ, _+_, _*_, _/_}
+use mathlib.Core.Bool.{true, false, cond}
+use mathlib.Core.List.{List, [], _∷_, map}
+use lib.ListN.{length, take}
+use lib.Seq.{sets}
+use lib.Dec.{ltb, eqb}
+use Rattle.laws.specs.Lists.{passing}
+use Rattle.geometry.specs.declared.Geometry.{Geometry}
+use Rattle.geometry.specs.Geometry.{most}
+use Rattle.slot.specs.declared.Pair.{Pair}
+use Rattle.rules.specs.Listing.{pairWords}
+use Rattle.promises.specs.Plain.{has}
+use Rattle.promises.specs.Answers.{answer}
+use Rattle.promises.specs.Listed.{between}
+use Rattle.index.specs.Reply.{Reply}
+use Rattle.conditions.specs.Calls.{Task, formatting, changing, asking, listing, checking, Call, Made}
+use Rattle.conditions.specs.Lengths.{refusal, passed, geometryThen}
+
+-- What a set can answer: the reply's number, the values that it decides, and the words of list's slice.
+pub record Answer : Type 0 where
+  pub number : ℕ
+  pub values : List ℕ
+  pub slice : List ℕ
+
+-- Put and drop tell the pairs that there are then, and ask whether the pair is among them: 1 or 0. List tells how many of those from its first pair
+-- to its second it wrote, in order and two words each until there was no room for two more, and a mark, 1 where there is none after them.
+unfoldable pub answerTo : ℕ → Task → List Pair → Answer
+answerTo most (formatting g) set = record { number = 0; values = 0 ∷ []; slice = [] }
+answerTo most (changing r work) set =
+    let a = answer most r set in
+    record { number = a .reply; values = cond (eqb (a .reply) 0) (length (a .after)) 0 ∷ []; slice = [] }
+answerTo most (asking p) set = record { number = 0; values = cond (has p set) 1 0 ∷ []; slice = [] }
+answerTo most (listing first second slice) set =
+    let listed = take (length slice / 2) (passing (between first second) set) in
+    record {
+      number = 0;
+      values = length listed ∷ elim (ltb (length slice) (2 * length listed + 2)) [ true ↦ 1 | false ↦ 0 ] ∷ [];
+      slice = sets slice 0 (pairWords listed);
+    }
+answerTo most checking set = record { number = 0; values = 0 ∷ []; slice = [] }
+
+-- The set after it.
+unfoldable pub leaves : ℕ → Task → List Pair → List Pair
+leaves most (formatting g) set = []
+leaves most (changing r work) set = (answer most r set) .after
+leaves most (asking p) set = set
+leaves most (listing first second slice) set = set
+leaves most checking set = set
+
+-- A refusal returns zeros and changes nothing.
+unfoldable pub refusing : ℕ → Task → Answer
+refusing n (formatting g) = record { number = n; values = 0 ∷ []; slice = [] }
+refusing n (changing r work) = record { number = n; values = 0 ∷ []; slice = [] }
+refusing n (asking p) = record { number = n; values = 0 ∷ []; slice = [] }
+refusing n (listing first second slice) = record { number = n; values = 0 ∷ 0 ∷ []; slice = slice }
+refusing n checking = record { number = n; values = 0 ∷ []; slice = [] }
+
+-- A call, after the tests of lengths; calls one after another.
+unfoldable pub answered : Geometry → Call → List Pair → Answer
+answered g c set = let n = refusal g c in passed n (answerTo (most g) (c .task) set) (refusing n (c .task))
+
+unfoldable pub setThen : Geometry → Call → List Pair → List Pair
+setThen g c set = passed (refusal g c) (leaves (most g) (c .task) set) set
+
+unfoldable pub answers : Geometry → List Pair → List Call → List Answer
+answers g set [] = []
+answers g set (c ∷ cs) = answered g c set ∷ answers (geometryThen g c) (setThen g c set) cs
+
+unfoldable pub setAfter : Geometry → List Pair → List Call → List Pair
+setAfter g set [] = set
+setAfter g set (c ∷ cs) = setAfter (geometryThen g c) (setThen g c set) cs
+
+-- As much of what a call came to: of put, drop and ask the first value, for the others are of levels and pages.
+unfoldable pub seenOf : Task → Reply → List ℕ → Answer
+seenOf (formatting g) r beside = record { number = r .number; values = r .values; slice = [] }
+seenOf (changing q work) r beside = record { number = r .number; values = take 1 (r .values); slice = [] }
+seenOf (asking p) r beside = record { number = r .number; values = take 1 (r .values); slice = [] }
+seenOf (listing first second slice) r beside = record { number = r .number; values = r .values; slice = beside }
+seenOf checking r beside = record { number = r .number; values = r .values; slice = [] }
+
+unfoldable pub seen : List Made → List Answer
+seen ms = map (λ m. seenOf (m .task) (m .reply) (m .beside)) ms
