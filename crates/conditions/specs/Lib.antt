@@ -7,3 +7,4 @@ pub mod Reports
 pub mod Settled
 pub mod Changed
 pub mod Opened
+pub mod Edited

@@ -1,26 +1,24 @@
 -- The opening tests on the first words of a store that is the writing of a good state, whatever stands behind it. Assumes nothing.
-use Prim.Native.Nat.{ℕ, zero, suc, _+_, _≤_, _<_}
+use Prim.Native.Nat.{ℕ, _≤_, _<_}
 use native.Mathlib.Omega.{arith}
-use mathlib.Core.Path.{_≡_, refl, sym, ap, _∙_}
+use mathlib.Core.Path.{_≡_, refl, sym, _∙_}
 use mathlib.Core.Logic.{_≢_}
 use mathlib.Core.Bool.{Bool, true, false}
-use mathlib.Core.List.{List, [], _∷_, _++_}
-use lib.ListN.{length, getD, take, drop, length-append, List·getD-append}
+use mathlib.Core.List.{List, _++_}
+use lib.ListN.{length, getD, take, drop, List·getD-append}
 use lib.Seq.{length-take-le, take-at, drop-at, getD-take}
 use lib.Dec.{leb, eqb}
 use borrow.Author.Tests.{le-leb, eq-eqb, ne-eqb, leb-true}
 use Rattle.geometry.specs.declared.Geometry.{Geometry}
 use Rattle.geometry.specs.Geometry.{between, inRange, InRange}
-use Rattle.geometry.specs.Places.{storeWords, workWords}
-use Rattle.geometry.specs.Lent.{Lent}
+use Rattle.geometry.specs.Places.{storeWords, planOf}
+use Rattle.geometry.specs.Lent.{lent}
 use Rattle.rules.specs.Merging.{State}
 use Rattle.rules.specs.Store.{writing}
 use Rattle.rules.specs.Sound.{geometryOf}
 use Rattle.rules.specs.Good.{Good}
 use Rattle.promises.specs.Written.{good-length, good-geometry}
-use Rattle.index.specs.Reply.{Test, test, firstFailing}
-use Rattle.index.specs.Opening.{openTests, opening, too-short, wrong-length, all-pass}
-use Rattle.index.specs.Edit.{bothTests, openingBoth}
+use Rattle.index.specs.Opening.{opening, too-short, wrong-length, all-pass}
 
 pub range-tested : (g : Geometry) → InRange g → inRange g ≡ true
 unfolding inRange between
@@ -34,12 +32,52 @@ range-tested g fit =
       le-leb (g .levels) 4 (fit .levels-most),
     ) refl
 
--- Tests after tests: the first that fails.
-failing-first : (ts us : List Test) (n : ℕ) → firstFailing ts ≡ suc n → firstFailing (ts ++ us) ≡ suc n
-unfolding firstFailing
-failing-first [] us n h = absurd (omega arith)
-failing-first (t ∷ ts) us n h = by (t .passes) refl (failing-first ts us n)
-  where
-    by : (b : Bool) → t .passes ≡ b → (firstFailing ts ≡ suc n → firstFailing (ts ++ us) ≡ suc n) → firstFailing (t ∷ ts ++ us) ≡ suc n
-    by true p rest = rw (p, firstFailing) (rest (rw (p, firstFailing) at h))
-    by false p rest = rw (p, firstFailing) (rw (p, firstFailing) at h)
+module _ (g : Geometry) (fit : InRange g) (s : State) (good : Good g s) where
+  abbrev w : List ℕ
+  w = writing g s
+
+  -- A store lent in its exact length passes.
+  pub opens : 0 ≡ opening w
+  opens =
+      all-pass w (le-leb 9 (length w) (lent g (planOf g) w fit refl (good-length g s fit good) .nine)) (rw (good-geometry g s fit good) (range-tested g fit))
+      (rw (good-geometry g s fit good) (eq-eqb (length w) (storeWords g) (good-length g s fit good)))
+
+  -- With more words behind it.
+  module _ (rest : List ℕ) where
+    pub whole-lent : take (storeWords g) (w ++ rest) ≡ w
+    whole-lent = take-at w rest (storeWords g) (good-length g s fit good)
+
+    pub rest-stays : drop (storeWords g) (w ++ rest) ≡ rest
+    rest-stays = drop-at w rest (storeWords g) (good-length g s fit good)
+
+    -- Lent in any other length it is refused: too short for its geometry to be read, or of a wrong length for it.
+    module _ (n : ℕ) (there : n ≤ length (w ++ rest)) (other : n ≢ storeWords g) where
+      abbrev v : List ℕ
+      v = take n (w ++ rest)
+
+      as-long : length v ≡ n
+      as-long = length-take-le n (w ++ rest) there
+
+      word-read : (i : ℕ) → i < n → i < 9 → getD v i 0 ≡ getD w i 0
+      word-read i h k =
+          getD-take n (w ++ rest) i 0 h ∙
+          List·getD-append w rest 0 i (omega (arith, k, lent g (planOf g) w fit refl (good-length g s fit good) .nine))
+
+      geometry-read : 9 ≤ n → geometryOf v ≡ g
+      unfolding geometryOf
+      geometry-read h =
+          (λ i. record {
+            head = word-read 0 (omega (arith, h)) (omega arith) i;
+            ratio = word-read 1 (omega (arith, h)) (omega arith) i;
+            levels = word-read 2 (omega (arith, h)) (omega arith) i;
+          }) ∙
+          good-geometry g s fit good
+
+      pub other-refused : 5 ≡ opening v
+      other-refused = by-words (leb 9 (length v)) refl
+        where
+          by-words : (b : Bool) → leb 9 (length v) ≡ b → 5 ≡ opening v
+          by-words false h = too-short v h
+          by-words true h =
+              let read : geometryOf v ≡ g = geometry-read (omega (arith, as-long, leb-true 9 (length v) h)) in
+              wrong-length v h (rw read (range-tested g fit)) (rw read (ne-eqb (length v) (storeWords g) (λ q. other (sym as-long ∙ q))))
