@@ -8,3 +8,4 @@ pub mod Settled
 pub mod Changed
 pub mod Opened
 pub mod Edited
+pub mod Stands

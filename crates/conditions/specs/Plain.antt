@@ -23,21 +23,25 @@ pub record Answer : Type 0 where
   pub values : List ℕ
   pub slice : List ℕ
 
--- Put and drop tell the pairs that there are then, and ask whether the pair is among them: 1 or 0. List tells how many of those from its first pair
--- to its second it wrote, in order and two words each until there was no room for two more, and a mark, 1 where there is none after them.
+-- Pairs written into a slice in order, two words each, until it has no room for two more; the other words stay. Told are how many, and a mark: 1
+-- exactly if the slice has no room for two more words after them.
+unfoldable pub fillsSlice : List Pair → List ℕ → Answer
+fillsSlice pairs slice =
+    let listed = take (length slice / 2) pairs in
+    record {
+      number = 0;
+      values = length listed ∷ elim (ltb (length slice) (2 * length listed + 2)) [ true ↦ 1 | false ↦ 0 ] ∷ [];
+      slice = sets slice 0 (pairWords listed);
+    }
+
+-- Put and drop tell how many pairs there are then; ask whether the pair is among them, 1 or 0; list those from its first to its second.
 unfoldable pub answerTo : ℕ → Task → List Pair → Answer
 answerTo most (formatting g) set = record { number = 0; values = 0 ∷ []; slice = [] }
 answerTo most (changing r work) set =
     let a = answer most r set in
     record { number = a .reply; values = cond (eqb (a .reply) 0) (length (a .after)) 0 ∷ []; slice = [] }
 answerTo most (asking p) set = record { number = 0; values = cond (has p set) 1 0 ∷ []; slice = [] }
-answerTo most (listing first second slice) set =
-    let listed = take (length slice / 2) (passing (between first second) set) in
-    record {
-      number = 0;
-      values = length listed ∷ elim (ltb (length slice) (2 * length listed + 2)) [ true ↦ 1 | false ↦ 0 ] ∷ [];
-      slice = sets slice 0 (pairWords listed);
-    }
+answerTo most (listing first second slice) set = fillsSlice (passing (between first second) set) slice
 answerTo most checking set = record { number = 0; values = 0 ∷ []; slice = [] }
 
 -- The set after it.
