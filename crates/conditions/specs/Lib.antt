@@ -9,3 +9,5 @@ pub mod Changed
 pub mod Opened
 pub mod Edited
 pub mod Stands
+pub mod Sequences
+pub mod Accounts
