@@ -21,9 +21,9 @@ use Rattle.promises.specs.Allowed.{reported, reported-allowed}
 use Rattle.index.specs.Reply.{Reply}
 use Rattle.conditions.specs.Calls.{Task, formatting, changing, asking, listing, checking, Call, TaskFits, CallsFit, Made, make, history}
 use Rattle.conditions.specs.Lengths.{refusal, passed, given, geometryThen, geometryAfter}
-use Rattle.conditions.specs.Plain.{Answer, answerTo, refusing, answered, seenOf, setThen}
+use Rattle.conditions.specs.Plain.{Answer, answerTo, answered, setThen, seen-number, refusing-number}
 use Rattle.conditions.specs.Ruled.{movesTo, writesBy, writes, stateThen, stateAfter}
-use Rattle.conditions.specs.Reports.{Tally, none, pagesIn, tallied, tally}
+use Rattle.conditions.specs.Reports.{Tally, noneYet, pagesIn, tallied, tally}
 use Rattle.conditions.specs.Stands.{Stands, Agrees, call-agrees}
 
 -- One request more, after the others.
@@ -66,7 +66,7 @@ pub record Accounts (g : Geometry) (s : State) (t : Tally) : Type 0 where
   pub accepted-all : t .accepted ≡ length (accepted (run g (formatted g) requests))
   pub reported-all : t .pages ≡ reported (run g (formatted g) requests)
 
-pub none-accounts : (g : Geometry) → Accounts g (formatted g) none
+pub none-accounts : (g : Geometry) → Accounts g (formatted g) noneYet
 unfolding RequestsFit run final accepted passing reported
 none-accounts g = record { requests = []; fits = tt; reached = refl; accepted-all = refl; reported-all = refl }
 
@@ -112,22 +112,6 @@ module _ (g : Geometry) (s : State) (t : Tally) (a : Accounts g s t) (r : Reply)
   passed-accounts set (asking p) fit holds f e q = a
   passed-accounts set (listing first second slice) fit holds f e p = a
   passed-accounts set checking fit holds f e p = a
-
-seen-number : (task : Task) (r : Reply) (beside : List ℕ) → (seenOf task r beside) .number ≡ r .number
-unfolding seenOf
-seen-number (formatting g) r beside = refl
-seen-number (changing q work) r beside = refl
-seen-number (asking p) r beside = refl
-seen-number (listing first second slice) r beside = refl
-seen-number checking r beside = refl
-
-refusing-number : (n : ℕ) (task : Task) → (refusing n task) .number ≡ n
-unfolding refusing
-refusing-number n (formatting g) = refl
-refusing-number n (changing q work) = refl
-refusing-number n (asking p) = refl
-refusing-number n (listing first second slice) = refl
-refusing-number n checking = refl
 
 call-accounts : (g : Geometry) (s : State) (set : List Pair) (words : List ℕ) (c : Call) (t : Tally) → Stands g s set words → Agrees g s set words c (make c words) →
     TaskFits (c .task) → Accounts g s t → Accounts (geometryThen g c) (stateThen g c s) (tallied (c .task) ((make c words) .reply) t)

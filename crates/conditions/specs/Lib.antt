@@ -1,4 +1,21 @@
--- Conditions 2 and 3 on the calls.
+-- Conditions 2 and 3 on the calls: any list of calls on a store's words, from a format on. Conditions has the statements; above it stand the
+-- definitions that they use, and then the proofs.
+--
+--   Calls       any calls on a store's words, one after another
+--   Lengths     the tests of numbers given and lengths lent
+--   Plain       the same calls on a plain set of pairs
+--   Ruled       the same calls by the rules
+--   Reports     what calls report of pages
+--   Settled     whether an edit of the head merges
+--   Changed     an accepted put or drop on the writing of a good state
+--   Opened      the opening tests on a store and what stands behind it
+--   Edited      put and drop on the writing of a good state
+--   Stands      one call where a set stands
+--   Sequences   any calls where a set stands
+--   Accounts    their tally, and the pages allowed
+--   Numbers     no fault among the replies
+--   Formatted   a format of any words
+--   Conditions  the statements
 pub mod Calls
 pub mod Lengths
 pub mod Plain
@@ -11,3 +28,6 @@ pub mod Edited
 pub mod Stands
 pub mod Sequences
 pub mod Accounts
+pub mod Numbers
+pub mod Formatted
+pub mod Conditions

@@ -1,5 +1,6 @@
 -- The same calls on a plain set of pairs, an ascending list of at most so many. It knows of no level, page or fence. Assumes nothing.
 use Prim.Native.Nat.{ℕ, _+_, _*_, _/_}
+use mathlib.Core.Path.{_≡_, refl}
 use mathlib.Core.Bool.{true, false, cond}
 use mathlib.Core.List.{List, [], _∷_, map}
 use lib.ListN.{length, take}
@@ -85,3 +86,20 @@ seenOf checking r beside = record { number = r .number; values = r .values; slic
 
 unfoldable pub seen : List Made → List Answer
 seen ms = map (λ m. seenOf (m .task) (m .reply) (m .beside)) ms
+
+-- The number of either is the reply's.
+pub seen-number : (task : Task) (r : Reply) (beside : List ℕ) → (seenOf task r beside) .number ≡ r .number
+unfolding seenOf
+seen-number (formatting g) r beside = refl
+seen-number (changing q work) r beside = refl
+seen-number (asking p) r beside = refl
+seen-number (listing first second slice) r beside = refl
+seen-number checking r beside = refl
+
+pub refusing-number : (n : ℕ) (task : Task) → (refusing n task) .number ≡ n
+unfolding refusing
+refusing-number n (formatting g) = refl
+refusing-number n (changing q work) = refl
+refusing-number n (asking p) = refl
+refusing-number n (listing first second slice) = refl
+refusing-number n checking = refl

@@ -23,11 +23,11 @@ pub record Tally : Type 0 where
   pub accepted : ℕ
   pub pages : ℕ
 
-abbrev pub none : Tally
-none = record { accepted = 0; pages = 0 }
+abbrev pub noneYet : Tally
+noneYet = record { accepted = 0; pages = 0 }
 
 unfoldable pub tallied : Task → Reply → Tally → Tally
-tallied (formatting g) r t = cond (eqb (r .number) 0) none t
+tallied (formatting g) r t = cond (eqb (r .number) 0) noneYet t
 tallied (changing q work) r t = record { accepted = t .accepted + cond (eqb (r .number) 0) 1 0; pages = t .pages + pagesIn (changing q work) r }
 tallied (asking p) r t = t
 tallied (listing first second slice) r t = t

@@ -1,8 +1,6 @@
 -- The same calls by the rules: the state after them, and the pages that each writes, as a list of pages whose contents are given anew.
 -- Assumes nothing.
-use Prim.Native.Nat.{ℕ}
 use mathlib.Core.List.{List, [], _∷_}
-use lib.ListN.{length}
 use Rattle.geometry.specs.declared.Geometry.{Geometry}
 use Rattle.rules.specs.Merging.{PageWrite, State, formatted}
 use Rattle.rules.specs.Requests.{step}
@@ -34,6 +32,6 @@ unfoldable pub stateAfter : Geometry → State → List Call → State
 stateAfter g s [] = s
 stateAfter g s (c ∷ cs) = stateAfter (geometryThen g c) (stateThen g c s) cs
 
-unfoldable pub pagesWritten : Geometry → State → List Call → List ℕ
+unfoldable pub pagesWritten : Geometry → State → List Call → List (List PageWrite)
 pagesWritten g s [] = []
-pagesWritten g s (c ∷ cs) = length (writes g c s) ∷ pagesWritten (geometryThen g c) (stateThen g c s) cs
+pagesWritten g s (c ∷ cs) = writes g c s ∷ pagesWritten (geometryThen g c) (stateThen g c s) cs

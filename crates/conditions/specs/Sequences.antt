@@ -16,7 +16,7 @@ use Rattle.conditions.specs.Stands.{Stands, call-agrees}
 
 pub record AllAgree (g : Geometry) (s : State) (set : List Pair) (words : List ℕ) (cs : List Call) : Type 0 where
   pub answered : seen (history words cs) ≡ answers g set cs
-  pub pages : pagesReported (history words cs) ≡ pagesWritten g s cs
+  pub pages : pagesReported (history words cs) ≡ map length (pagesWritten g s cs)
   pub after : Stands (geometryAfter g cs) (stateAfter g s cs) (setAfter g set cs) (wordsAfter words (history words cs))
 
 pub calls-agree : (cs : List Call) (g : Geometry) (s : State) (set : List Pair) (words : List ℕ) → Stands g s set words → CallsFit (length words) cs →

@@ -284,3 +284,14 @@ pub call-agrees : (g : Geometry) (s : State) (set : List Pair) (words : List ℕ
 call-agrees g s set words c stands there f =
     rw (stands .written)
     (task-agrees g s set (stands .rest) (stands .in-range) (stands .holds) (c .lent) (rw (stands .written) at there) (c .task) f)
+
+-- Of words where a set stands: the store, that it is sound, and that the set is no larger than the bottom level's capacity.
+module _ (g : Geometry) (s : State) (set : List Pair) (words : List ℕ) (stands : Stands g s set words) where
+  pub stands-first : take (storeWords g) words ≡ writing g s
+  stands-first = rw (stands .written) (whole-lent g (stands .in-range) s (stands .holds .good) (stands .rest))
+
+  pub stands-sound : checkOf (writing g s) ≡ record { number = 0; values = 0 ∷ [] }
+  stands-sound = rw (← (check-tested (writing g s) (opens g (stands .in-range) s (stands .holds .good))), good-geometry g s (stands .in-range) (stands .holds .good), good-sound g s (stands .in-range) (stands .holds .good)) refl
+
+  pub stands-most : length set ≤ most g
+  stands-most = omega (arith, stands .holds .size, stands .holds .good .few)

@@ -1,0 +1,89 @@
+-- Conditions 2 and 3, over any list of calls from a formatted store of any in-range geometry: any call, format too, with any arguments and any lent
+-- lengths. Each definition is the paper's (crates/rules) or a few lines long: Calls and Reports here on words, Lengths for the tests that come first,
+-- Plain for the set, Ruled for the rules. Assumes nothing.
+use Prim.Native.Nat.{ℕ, _≤_}
+use native.Mathlib.Omega.{arith}
+use mathlib.Core.Path.{_≡_, ap, _∙_}
+use mathlib.Core.Bool.{true}
+use mathlib.Core.List.{List, [], _∷_, map}
+use lib.ListN.{length, take}
+use Rattle.laws.specs.Lists.{all}
+use Rattle.geometry.specs.declared.Geometry.{Geometry}
+use Rattle.geometry.specs.Geometry.{InRange, most}
+use Rattle.geometry.specs.Places.{storeWords, workWords}
+use Rattle.slot.specs.declared.Pair.{Pair}
+use Rattle.slot.specs.Pair.{Words}
+use Rattle.rules.specs.Merging.{State, formatted}
+use Rattle.rules.specs.Store.{writing}
+use Rattle.rules.specs.Requests.{Request, step, pairIn}
+use Rattle.rules.specs.Allowance.{allowed}
+use Rattle.index.specs.Check.{checkOf}
+use Rattle.conditions.specs.Calls.{Call, CallsFit, changeOn, Made, make, history, wordsAfter}
+use Rattle.conditions.specs.Lengths.{geometryAfter}
+use Rattle.conditions.specs.Plain.{answers, setAfter, seen}
+use Rattle.conditions.specs.Ruled.{stateAfter, pagesWritten}
+use Rattle.conditions.specs.Reports.{pagesReported, Tally, noneYet, tally}
+use Rattle.conditions.specs.Edited.{keptBy, change-kept}
+use Rattle.conditions.specs.Stands.{Stands, stands-first, stands-sound, stands-most}
+use Rattle.conditions.specs.Sequences.{AllAgree, calls-agree}
+use Rattle.conditions.specs.Accounts.{none-accounts, calls-account, accounts-allowed}
+use Rattle.conditions.specs.Numbers.{noFault, no-faults}
+use Rattle.conditions.specs.Formatted.{formatCall, format-stands, format-long}
+
+-- Any words with room for the store, formatted, and any calls on them.
+module _ (g : Geometry) (fit : InRange g) (before : List ℕ) (room : storeWords g ≤ length before) (cs : List Call) (fits : CallsFit (length before) cs) where
+  abbrev begun : List ℕ
+  begun = (make (formatCall g) before) .words
+
+  abbrev made : List Made
+  made = history begun cs
+
+  -- After them: the geometry in force, the plain set, the state that the rules give, and the store, which is the first of the caller's words.
+  abbrev now : Geometry
+  now = geometryAfter g cs
+
+  abbrev set : List Pair
+  set = setAfter g [] cs
+
+  abbrev state : State
+  state = stateAfter g (formatted g) cs
+
+  abbrev store : List ℕ
+  store = take (storeWords now) (wordsAfter begun made)
+
+  agree : AllAgree g (formatted g) [] begun cs
+  agree = calls-agree cs g (formatted g) [] begun (format-stands g fit before room) (rw (format-long g fit before room) fits)
+
+  -- Condition 2. The answers are those of a plain set of pairs, ..
+  pub answers-of-the-set : seen made ≡ answers g [] cs
+  answers-of-the-set = agree .answered
+
+  -- .. no larger than M. None is a fault.
+  pub set-at-most : length set ≤ most now
+  set-at-most = stands-most now state set (wordsAfter begun made) (agree .after)
+
+  pub never-a-fault : all (λ m. noFault (m .reply .number)) made ≡ true
+  never-a-fault = no-faults made g [] cs answers-of-the-set
+
+  -- The store is word by word the writing of the tree that the merge rules give.
+  pub store-is-the-writing : store ≡ writing now state
+  store-is-the-writing = stands-first now state set (wordsAfter begun made) (agree .after)
+
+  -- It stays sound: check is done on it.
+  pub store-sound : checkOf store ≡ record { number = 0; values = 0 ∷ [] }
+  store-sound = rw store-is-the-writing (stands-sound now state set (wordsAfter begun made) (agree .after))
+
+  -- A put or drop on it replies as the rules do, with all their values, and leaves every word of store and work area as they say.
+  pub change-by-the-rules : (r : Request) (work : List ℕ) → Words (pairIn r) → length work ≡ workWords now → changeOn r store work ≡ keptBy now (step now r state) work
+  change-by-the-rules r work pair exact =
+      rw store-is-the-writing (change-kept now (agree .after .in-range) state (agree .after .holds .good) work exact r pair)
+
+  -- Condition 3. The sum of the pages reported is at most what is allowed to the number of puts and drops accepted, both counted since the last format.
+  pub pages-allowed : (tally noneYet made) .pages ≤ allowed now ((tally noneYet made) .accepted)
+  pages-allowed =
+      accounts-allowed now state (tally noneYet made) (agree .after .in-range)
+      (calls-account cs g (formatted g) [] begun noneYet (format-stands g fit before room) (rw (format-long g fit before room) fits) (none-accounts g))
+
+  -- The number that each call reports is that of the pages that the merge rules write.
+  pub pages-by-the-rules : pagesReported made ≡ map length (pagesWritten g (formatted g) cs)
+  pages-by-the-rules = agree .pages
