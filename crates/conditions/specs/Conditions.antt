@@ -2,8 +2,7 @@
 -- lengths. Each definition is the paper's (crates/rules) or a few lines long: Calls and Reports here on words, Lengths for the tests that come first,
 -- Plain for the set, Ruled for the rules. Assumes nothing.
 use Prim.Native.Nat.{ℕ, _≤_}
-use native.Mathlib.Omega.{arith}
-use mathlib.Core.Path.{_≡_, ap, _∙_}
+use mathlib.Core.Path.{_≡_}
 use mathlib.Core.Bool.{true}
 use mathlib.Core.List.{List, [], _∷_, map}
 use lib.ListN.{length, take}
@@ -22,9 +21,9 @@ use Rattle.conditions.specs.Calls.{Call, CallsFit, changeOn, Made, make,
 use Rattle.conditions.specs.Lengths.{geometryAfter}
 use Rattle.conditions.specs.Plain.{answers, setAfter, seen}
 use Rattle.conditions.specs.Ruled.{stateAfter, pagesWritten}
-use Rattle.conditions.specs.Reports.{pagesReported, Tally, noneYet, tally}
+use Rattle.conditions.specs.Reports.{pagesReported, noneYet, tally}
 use Rattle.conditions.specs.Edited.{keptBy, change-kept}
-use Rattle.conditions.specs.Stands.{Stands, stands-first, stands-sound, stands-most}
+use Rattle.conditions.specs.Stands.{stands-first, stands-sound, stands-most}
 use Rattle.conditions.specs.Sequences.{AllAgree, calls-agree}
 use Rattle.conditions.specs.Accounts.{none-accounts, calls-account, accounts-allowed}
 use Rattle.conditions.specs.Numbers.{noFault, no-faults}

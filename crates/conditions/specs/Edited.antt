@@ -1,9 +1,8 @@
 -- A put or drop on the writing of a good state, lent in exact lengths: what it comes to is what the rules give. Assumes nothing.
 use Prim.Native.Nat.{ℕ, _<_}
-use native.Mathlib.Omega.{arith}
 use mathlib.Core.Path.{_≡_, refl, sym, ap, _∙_}
 use mathlib.Core.Bool.{Bool, true, false, not, true≢false}
-use mathlib.Core.List.{List, [], _∷_}
+use mathlib.Core.List.{List, _∷_}
 use lib.ListN.{length, getD}
 use lib.Dec.{ltb, eqb}
 use borrow.Author.Tests.{eq-eqb, lt-ltb, ltb-true}
@@ -18,7 +17,6 @@ use Rattle.rules.specs.Store.{writing}
 use Rattle.rules.specs.Sound.{geometryOf}
 use Rattle.rules.specs.Good.{Good}
 use Rattle.rules.specs.Requests.{Request, putting, dropping, step, pairIn}
-use Rattle.walk.specs.declared.Walked.the-variants.{Found}
 use Rattle.walk.specs.Walk.{walked}
 use Rattle.finding.specs.Asked.{decider}
 use Rattle.good.specs.Edit.{entry, held-live}

@@ -1,21 +1,19 @@
 -- A format of any words with room for the store: the empty set stands in them. Assumes nothing.
 use Prim.Native.Nat.{ℕ, _≤_}
 use native.Mathlib.Omega.{arith}
-use mathlib.Core.Path.{_≡_, refl, sym, ap, _∙_}
+use mathlib.Core.Path.{_≡_, refl, ap, _∙_}
 use mathlib.Core.List.{List, [], _∷_, _++_}
 use lib.ListN.{length, take, drop, length-append, length-drop}
 use lib.Seq.{length-take-le}
-use lib.Dec.{eqb}
 use borrow.Author.Tests.{eq-eqb}
 use Rattle.geometry.specs.declared.Geometry.{Geometry}
 use Rattle.geometry.specs.Geometry.{InRange}
 use Rattle.geometry.specs.Places.{storeWords}
 use Rattle.rules.specs.Merging.{formatted}
-use Rattle.rules.specs.Store.{writing, emptyStore}
+use Rattle.rules.specs.Store.{emptyStore}
 use Rattle.good.specs.Format.{formatted-good}
 use Rattle.promises.specs.Written.{good-length}
-use Rattle.index.specs.List.{filled}
-use Rattle.index.specs.Format.{formatOf, format-done}
+use Rattle.index.specs.Format.{format-done}
 use Rattle.conditions.specs.Calls.{formatting, Call, comesTo, Made, make}
 use Rattle.conditions.specs.Opened.{range-tested}
 use Rattle.conditions.specs.Stands.{Stands, empty-stands}

@@ -1,5 +1,5 @@
 -- An edit of the head, settled: whether it merges, by the entries that the head then has. Assumes nothing.
-use Prim.Native.Nat.{ℕ, zero, suc, _≤_, _<_}
+use Prim.Native.Nat.{ℕ, zero, suc, _≤_}
 use native.Mathlib.Omega.{arith}
 use mathlib.Core.Path.{_≡_, refl, sym, _∙_}
 use mathlib.Core.Bool.{Bool, true, false}
@@ -14,7 +14,7 @@ use Rattle.slot.specs.Order.{before-below, apart-not-same}
 use Rattle.rules.specs.Tree.{Entry, Level, Tree, level}
 use Rattle.rules.specs.Finding.{Met, absent, met, find}
 use Rattle.rules.specs.Merging.{merge, settle, toggle}
-use Rattle.entries.specs.Ascending.{From, from-lower, find-here, find-on, find-above}
+use Rattle.entries.specs.Ascending.{From, find-here, find-on, find-above}
 use Rattle.finding.specs.Asked.{deciding, deciding-met, deciding-absent, decider}
 use Rattle.good.specs.Rising.{Compared, earlier, equal, later, compared}
 use Rattle.good.specs.Toggle.{toggle-before, toggle-cancels, toggle-after, find-nothing}

@@ -1,6 +1,6 @@
 -- One call on a store that is the writing of a good state: it answers as the plain set does, and leaves the writing of the state that the rules
 -- give. Assumes nothing.
-use Prim.Native.Nat.{ℕ, zero, suc, _+_, _-_, _≤_}
+use Prim.Native.Nat.{ℕ, zero, suc, _≤_}
 use native.Mathlib.Omega.{arith}
 use mathlib.Core.Path.{_≡_, refl, sym, ap, _∙_}
 use mathlib.Core.Logic.{_≢_}
@@ -19,20 +19,20 @@ use Rattle.slot.specs.Pair.{Words}
 use Rattle.rules.specs.Merging.{State, formatted, Outcome, refused, done}
 use Rattle.rules.specs.Listing.{list}
 use Rattle.rules.specs.Store.{writing, emptyStore}
-use Rattle.rules.specs.Sound.{geometryOf, treeOf, sound, fault}
+use Rattle.rules.specs.Sound.{geometryOf, sound, fault}
 use Rattle.rules.specs.Requests.{Request, putting, dropping, step, run, final, pairIn, RequestsFit}
 use Rattle.walk.specs.Walk.{walked}
 use Rattle.promises.specs.Written.{good-length, good-geometry, good-tree, good-sound, good-walks}
 use Rattle.promises.specs.Calls.{ComesTo, refusal as refusing-call, edited, step-comes}
-use Rattle.promises.specs.Answers.{answer, answers as answers-of-requests, setAfter as set-after-requests}
+use Rattle.promises.specs.Answers.{answers as answers-of-requests, setAfter as set-after-requests}
 use Rattle.promises.specs.Sets.{Holds, step-agrees, run-holds}
 use Rattle.promises.specs.Listed.{holds-lists}
 use Rattle.index.specs.Reply.{firstFailing}
 use Rattle.index.specs.Opening.{opening}
-use Rattle.index.specs.Ask.{walkReply, askOf, ask-refused, ask-walked}
+use Rattle.index.specs.Ask.{walkReply, ask-refused, ask-walked}
 use Rattle.index.specs.Check.{faultReply, checkOf, check-refused, check-tested}
-use Rattle.index.specs.List.{listOf, list-refused, list-tested}
-use Rattle.index.specs.Format.{formatTests, formatAfter, formatOf}
+use Rattle.index.specs.List.{list-refused, list-tested}
+use Rattle.index.specs.Format.{formatTests, formatOf}
 use Rattle.index.specs.Edit.{kept, zeros, openingBoth, edit-refused, both-refused, both-short}
 use Rattle.conditions.specs.Calls.{Task, formatting, changing, asking, listing, checking, Call, TaskFits, changeOn, comesTo, Made, make}
 use Rattle.conditions.specs.Lengths.{testsOf, refusal, passed, given, geometryThen}
