@@ -24,7 +24,7 @@ use Rattle.conditions.specs.Lengths.{refusal, passed, given, geometryThe
 use Rattle.conditions.specs.Plain.{Answer, answerTo, answered, setThen, seen-number, refusing-number}
 use Rattle.conditions.specs.Ruled.{movesTo, writesBy, writes, stateThen, stateAfter}
 use Rattle.conditions.specs.Reports.{Tally, noneYet, pagesIn, tallied, tally}
-use Rattle.conditions.specs.Stands.{Stands, Agrees, call-agrees}
+use Rattle.conditions.specs.Stands.{Stands, CallAgrees, call-agrees}
 
 -- One request more, after the others.
 run-then : (g : Geometry) (rs : List Request) (s : State) (r : Request) → run g s (rs ++ r ∷ []) ≡ run g s rs ++ step g r (final s (run g s rs)) ∷ []
@@ -113,7 +113,7 @@ module _ (g : Geometry) (s : State) (t : Tally) (a : Accounts g s t) (r : Reply)
   passed-accounts set (listing first second slice) fit holds f e p = a
   passed-accounts set checking fit holds f e p = a
 
-call-accounts : (g : Geometry) (s : State) (set : List Pair) (words : List ℕ) (c : Call) (t : Tally) → Stands g s set words → Agrees g s set words c (make c words) →
+call-accounts : (g : Geometry) (s : State) (set : List Pair) (words : List ℕ) (c : Call) (t : Tally) → Stands g s set words → CallAgrees g s set words c (make c words) →
     TaskFits (c .task) → Accounts g s t → Accounts (geometryThen g c) (stateThen g c s) (tallied (c .task) ((make c words) .reply) t)
 unfolding make answered writes geometryThen stateThen passed
 call-accounts g s set words c t stands agrees f a = by (refusal g c) refl

@@ -10,6 +10,7 @@
 --   Changed     an accepted put or drop on the writing of a good state
 --   Opened      the opening tests on a store and what stands behind it
 --   Edited      put and drop on the writing of a good state
+--   Refused     a call that the tests of lengths refuse
 --   Stands      one call where a set stands
 --   Sequences   any calls where a set stands
 --   Accounts    their tally, and the pages allowed
@@ -25,6 +26,7 @@ pub mod Settled
 pub mod Changed
 pub mod Opened
 pub mod Edited
+pub mod Refused
 pub mod Stands
 pub mod Sequences
 pub mod Accounts
