@@ -24,7 +24,8 @@ use Rattle.conditions.specs.Lengths.{refusal, passed, given, geometryThe
 use Rattle.conditions.specs.Plain.{Answer, answerTo, answered, setThen, seen-number, refusing-number}
 use Rattle.conditions.specs.Ruled.{movesTo, writesBy, writes, stateThen, stateAfter}
 use Rattle.conditions.specs.Reports.{Tally, noneYet, pagesIn, tallied, tally}
-use Rattle.conditions.specs.Stands.{Stands, CallAgrees, call-agrees}
+use Rattle.conditions.specs.Stands.{Stands}
+use Rattle.conditions.specs.Called.{CallAgrees, call-agrees}
 
 -- One request more, after the others.
 run-then : (g : Geometry) (rs : List Request) (s : State) (r : Request) → run g s (rs ++ r ∷ []) ≡ run g s rs ++ step g r (final s (run g s rs)) ∷ []
@@ -41,9 +42,12 @@ accepted-more : (o : Outcome) (os : List Outcome) → length (accepted (o ∷ os
 unfolding accepted
 accepted-more o os = by (eqb (o .reply) 0) refl
   where
-    by : (b : Bool) → eqb (o .reply) 0 ≡ b → length (passing (λ (q : Outcome). eqb (q .reply) 0) (o ∷ os)) ≡ cond b 1 0 + length (passing (λ (q : Outcome). eqb (q .reply) 0) os)
-    by true e = rw (passing-yes (λ (q : Outcome). eqb (q .reply) 0) o os e) (omega arith)
-    by false e = rw (passing-no (λ (q : Outcome). eqb (q .reply) 0) o os e) (omega arith)
+    isDone : Outcome → Bool
+    isDone q = eqb (q .reply) 0
+
+    by : (b : Bool) → isDone o ≡ b → length (passing isDone (o ∷ os)) ≡ cond b 1 0 + length (passing isDone os)
+    by true e = rw (passing-yes isDone o os e) (omega arith)
+    by false e = rw (passing-no isDone o os e) (omega arith)
 
 accepted-then : (os : List Outcome) (o : Outcome) → length (accepted (os ++ o ∷ [])) ≡ length (accepted os) + cond (eqb (o .reply) 0) 1 0
 accepted-then [] o = omega (arith, accepted-more o [])
@@ -113,8 +117,8 @@ module _ (g : Geometry) (s : State) (t : Tally) (a : Accounts g s t) (r : Reply)
   passed-accounts set (listing first second slice) fit holds f e p = a
   passed-accounts set checking fit holds f e p = a
 
-call-accounts : (g : Geometry) (s : State) (set : List Pair) (words : List ℕ) (c : Call) (t : Tally) → Stands g s set words → CallAgrees g s set words c (make c words) →
-    TaskFits (c .task) → Accounts g s t → Accounts (geometryThen g c) (stateThen g c s) (tallied (c .task) ((make c words) .reply) t)
+call-accounts : (g : Geometry) (s : State) (set : List Pair) (words : List ℕ) (c : Call) (t : Tally) → Stands g s set words →
+    CallAgrees g s set words c (make c words) → TaskFits (c .task) → Accounts g s t → Accounts (geometryThen g c) (stateThen g c s) (tallied (c .task) ((make c words) .reply) t)
 unfolding make answered writes geometryThen stateThen passed
 call-accounts g s set words c t stands agrees f a = by (refusal g c) refl
   where
@@ -124,17 +128,19 @@ call-accounts g s set words c t stands agrees f a = by (refusal g c) refl
     told : (m .reply) .number ≡ (answered g c set) .number
     told = sym (seen-number (c .task) (m .reply) (m .beside)) ∙ ap (λ (x : Answer). x .number) (agrees .answers)
 
-    by : (n : ℕ) → refusal g c ≡ n → Accounts (passed (refusal g c) (given g (c .task)) g) (passed (refusal g c) (movesTo g (c .task) s) s) (tallied (c .task) (m .reply) t)
+    by : (n : ℕ) → refusal g c ≡ n →
+        Accounts (passed (refusal g c) (given g (c .task)) g) (passed (refusal g c) (movesTo g (c .task) s) s) (tallied (c .task) (m .reply) t)
     by zero e =
         rw e
         (passed-accounts g s t a (m .reply) set (c .task) (stands .in-range) (stands .holds) f (told ∙ rw e refl) (agrees .pages ∙ rw e refl))
     by (suc n) e = rw e (refused-accounts g s t a (m .reply) (c .task) n (told ∙ rw e (refusing-number (suc n) (c .task))) (agrees .pages ∙ rw e refl))
 
-pub calls-account : (cs : List Call) (g : Geometry) (s : State) (set : List Pair) (words : List ℕ) (t : Tally) → Stands g s set words → CallsFit (length words) cs →
-    Accounts g s t → Accounts (geometryAfter g cs) (stateAfter g s cs) (tally t (history words cs))
+pub calls-account : (cs : List Call) (g : Geometry) (s : State) (set : List Pair) (words : List ℕ) (t : Tally) → Stands g s set words →
+    CallsFit (length words) cs → Accounts g s t → Accounts (geometryAfter g cs) (stateAfter g s cs) (tally t (history words cs))
 unfolding CallsFit history geometryAfter stateAfter tally make
 calls-account [] g s set words t stands f a = a
 calls-account (c ∷ cs) g s set words t stands f a =
     let here = call-agrees g s set words c stands (f .0 .0) (f .0 .1) in
-    calls-account cs (geometryThen g c) (stateThen g c s) (setThen g c set) ((make c words) .words) (tallied (c .task) ((make c words) .reply) t) (here .after)
+    let m = make c words in
+    calls-account cs (geometryThen g c) (stateThen g c s) (setThen g c set) (m .words) (tallied (c .task) (m .reply) t) (here .after)
     (rw (here .as-long) (f .1)) (call-accounts g s set words c t stands here (f .0 .1) a)

@@ -110,13 +110,17 @@ module _ (g : Geometry) (fit : InRange g) (s : State) (good : Good g s) (p : Pai
       ltb-true (length (level 0 t)) (capacity g 0)
       (sym (within-upper g 0 (length (level 0 t)) (omega (arith, fit .levels-least))) ∙ good .within 0 (omega (arith, fit .levels-least)))
 
+  grown : find p (level 0 t) ≡ absent → length (level 0 (toggleHead e t)) ≡ suc (length (level 0 t))
+  grown f = ap length (toggled-head e t some-levels) ∙ toggle-adds e (level 0 t) f
+
   -- A head that is full once the entry is in it is merged on, and the work area used.
-  merged : (work : List ℕ) → find p (level 0 t) ≡ absent → g .head ≤ suc (length (level 0 t)) → changedTree g e w work ≡ ruledChange g live (edit g e t) work
+  merged : (work : List ℕ) → find p (level 0 t) ≡ absent → g .head ≤ suc (length (level 0 t)) →
+      changedTree g e w work ≡ ruledChange g live (edit g e t) work
   unfolding changedTree ruledChange edit
   merged work f full =
-      let grown : length (level 0 (toggleHead e t)) ≡ suc (length (level 0 t)) = ap length (toggled-head e t some-levels) ∙ toggle-adds e (level 0 t) f in
-      let sinks = head-merges g (bottom g) (toggleHead e t) (omega (arith, fit .levels-least))
-      (le-ltb (length (level 0 (toggleHead e t))) (capacity g 0) (omega (arith, grown, full, capacity-zero g))) in
+      let more : capacity g 0 ≤ length (level 0 (toggleHead e t)) = omega (arith, grown f, full, capacity-zero g) in
+      let sinks =
+      head-merges g (bottom g) (toggleHead e t) (omega (arith, fit .levels-least)) (le-ltb (length (level 0 (toggleHead e t))) (capacity g 0) more) in
       rw (live-read, good-tree g s fit good, good-tree g ended fit ended-good, merged-work ((edit g e t) .deepest) work sinks) refl
 
   -- Any other is edited, and nothing else changes.
@@ -140,7 +144,8 @@ module _ (g : Geometry) (fit : InRange g) (s : State) (good : Good g s) (p : Pai
       roomy =
           let fits = good-fits g s fit good in
           let reads = good-reads g s fit good in
-          omega (arith, head-has-room g w fit (directory-right g s w fit good fits reads) (head-right g s w fit good fits reads), ap length (reads .head-slots))
+          let right = directory-right g s w fit good fits reads in
+          omega (arith, head-has-room g w fit right (head-right g s w fit good fits reads), ap length (reads .head-slots))
 
   removed : (b : Bool) → find p (level 0 t) ≡ met b → headEdited g e true w ≡ writing g begun
   unfolding headEdited editedBehind toggledBehind
@@ -160,10 +165,9 @@ module _ (g : Geometry) (fit : InRange g) (s : State) (good : Good g s) (p : Pai
           sym (change-merges g e w work own (rw (o, head-read, c) refl)) ∙ sym (merge-goes-on g e w work (good-sound g s fit good)) ∙
           merged work f (leb-true (g .head) (suc (length (level 0 t))) c)
       by-count false c f o =
-          let grown : length (level 0 (toggleHead e t)) ≡ suc (length (level 0 t)) = ap length (toggled-head e t some-levels) ∙ toggle-adds e (level 0 t) f in
           let less : suc (length (level 0 t)) < g .head = leb-false (g .head) (suc (length (level 0 t))) c in
           sym (change-edits g e w work own (rw (o, head-read, c) refl)) ∙
-          edited (shorter (omega (arith, grown, less, capacity-zero g))) work own (rw o (added f))
+          edited (shorter (omega (arith, grown f, less, capacity-zero g))) work own (rw o (added f))
 
       by-entry : (m : Met) → find p (level 0 t) ≡ m → changeOf g e own w work ≡ ruledChange g live (edit g e t) work
       by-entry absent f =

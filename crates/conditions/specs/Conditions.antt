@@ -30,7 +30,8 @@ use Rattle.conditions.specs.Numbers.{noFault, no-faults}
 use Rattle.conditions.specs.Formatted.{formatCall, format-stands, format-long}
 
 -- Any words with room for the store, formatted, and any calls on them.
-module _ (g : Geometry) (fit : InRange g) (before : List ℕ) (room : storeWords g ≤ length before) (cs : List Call) (fits : CallsFit (length before) cs) where
+module _ (g : Geometry) (fit : InRange g) (before : List ℕ) (room : storeWords g ≤ length before) (cs : List Call)
+    (fits : CallsFit (length before) cs) where
   abbrev begun : List ℕ
   begun = (make (formatCall g) before) .words
 
@@ -73,7 +74,8 @@ module _ (g : Geometry) (fit : InRange g) (before : List ℕ) (room : storeWords
   store-sound = rw store-is-the-writing (stands-sound now state set (wordsAfter begun made) (agree .after))
 
   -- A put or drop on it replies as the rules do, with all their values, and leaves every word of store and work area as they say.
-  pub change-by-the-rules : (r : Request) (work : List ℕ) → Words (pairIn r) → length work ≡ workWords now → changeOn r store work ≡ keptBy now (step now r state) work
+  pub change-by-the-rules : (r : Request) (work : List ℕ) → Words (pairIn r) → length work ≡ workWords now →
+      changeOn r store work ≡ keptBy now (step now r state) work
   change-by-the-rules r work pair exact =
       rw store-is-the-writing (change-kept now (agree .after .in-range) state (agree .after .holds .good) work exact r pair)
 

@@ -1,11 +1,12 @@
 -- A put or drop on the writing of a good state, lent in exact lengths: what it comes to is what the rules give. Assumes nothing.
-use Prim.Native.Nat.{ℕ, _<_}
+use Prim.Native.Nat.{ℕ, suc, _<_}
+use native.Mathlib.Omega.{arith}
 use mathlib.Core.Path.{_≡_, refl, sym, ap, _∙_}
-use mathlib.Core.Bool.{Bool, true, false, not, true≢false}
-use mathlib.Core.List.{List, _∷_}
-use lib.ListN.{length, getD}
+use mathlib.Core.Bool.{Bool, true, false, not, cond, true≢false}
+use mathlib.Core.List.{List, [], _∷_}
+use lib.ListN.{length, getD, take}
 use lib.Dec.{ltb, eqb}
-use borrow.Author.Tests.{eq-eqb, lt-ltb, ltb-true}
+use borrow.Author.Tests.{eq-eqb, ne-eqb, lt-ltb, ltb-true}
 use Rattle.geometry.specs.declared.Geometry.{Geometry}
 use Rattle.geometry.specs.Geometry.{InRange, most}
 use Rattle.geometry.specs.Places.{liveWord, workWords}
@@ -21,6 +22,7 @@ use Rattle.walk.specs.Walk.{walked}
 use Rattle.finding.specs.Asked.{decider}
 use Rattle.good.specs.Edit.{entry, held-live}
 use Rattle.good.specs.Calls.{put-held as put-of-held, put-full as put-of-full, put-done, remove-missing, remove-done}
+use Rattle.promises.specs.Calls.{ComesTo, refusal, edited}
 use Rattle.promises.specs.Written.{good-reads, good-geometry, good-walks}
 use Rattle.change.specs.Change.{liveAfter, changeOf}
 use Rattle.index.specs.Edit.{Kept, kept, zeros, changedReply, putFound, dropFound, foundOf, editOf, edit-walked, put-held, put-full, put-changes, drop-missing, drop-changes, openingBoth, both-pass}
@@ -34,6 +36,20 @@ toldBy o = elim (eqb (o .reply) 0) [ true ↦ o .after .live ∷ o .deepest ∷ 
 
 unfoldable pub keptBy : Geometry → Outcome → List ℕ → Kept
 keptBy g o work = kept (o .reply) (toldBy o) (writing g (o .after)) (workAfter (o .deepest) work)
+
+-- What a put or drop tells, by the rules: live pairs and pages where it is done, zeros where it is refused.
+pub live-told : (o : Outcome) → take 1 (toldBy o) ≡ cond (eqb (o .reply) 0) (o .after .live) 0 ∷ []
+unfolding toldBy
+live-told o = by (eqb (o .reply) 0) refl
+  where
+    by : (b : Bool) → eqb (o .reply) 0 ≡ b → take 1 (toldBy o) ≡ cond b (o .after .live) 0 ∷ []
+    by true e = rw (e, toldBy) refl
+    by false e = rw (e, toldBy) refl
+
+pub pages-told : (g : Geometry) (s : State) (o : Outcome) → ComesTo g s o → getD (toldBy o) 2 0 ≡ length (o .written)
+unfolding toldBy refused done
+pages-told g s o (refusal n e) = rw (e, ne-eqb (suc n) 0 (λ q. omega (arith, q)), toldBy) refl
+pages-told g s o (edited live e d c) = rw d refl
 
 module _ (g : Geometry) (fit : InRange g) (s : State) (good : Good g s) (work : List ℕ) (exact : length work ≡ workWords g) where
   abbrev w : List ℕ
@@ -54,7 +70,8 @@ module _ (g : Geometry) (fit : InRange g) (s : State) (good : Good g s) (work : 
 
     -- What changes, where the rules accept it.
     module _ (pair : Words p) (normal : Bool) (h : held p (s .tree) ≡ not normal) (room : normal ≡ true → s .live < most g) where
-      changes : changedReply (changeOf (geometryOf w) (entry p normal) (eqb (decider p (s .tree)) 0) w work) ≡ keptBy g (done (liveAfter normal (s .live)) (edit g (entry p normal) (s .tree))) work
+      changes : changedReply (changeOf (geometryOf w) (entry p normal) (eqb (decider p (s .tree)) 0) w work) ≡
+          keptBy g (done (liveAfter normal (s .live)) (edit g (entry p normal) (s .tree))) work
       unfolding ruledChange keptBy toldBy done
       changes = rw stored (ap changedReply (change-written g fit s good p normal pair h room work))
 
@@ -65,7 +82,8 @@ module _ (g : Geometry) (fit : InRange g) (s : State) (good : Good g s) (work : 
         told : (h : Bool) → held p (s .tree) ≡ h → (l : Bool) → ltb (s .live) (most g) ≡ l →
             putFound w work p (held p (s .tree)) (decider p (s .tree)) ≡ keptBy g (put g p s) work
         told true e l k = sym (put-held w work p (decider p (s .tree)) (held p (s .tree)) e) ∙ rw (put-of-held g p s e) refl
-        told false e false k = sym (put-full w work p (decider p (s .tree)) (held p (s .tree)) e (rw (live-read, stored) k)) ∙ rw (put-of-full g p s e k) refl
+        told false e false k =
+            sym (put-full w work p (decider p (s .tree)) (held p (s .tree)) e (rw (live-read, stored) k)) ∙ rw (put-of-full g p s e k) refl
         told false e true k =
             sym (put-changes w work p (decider p (s .tree)) (held p (s .tree)) e (rw (live-read, stored) k)) ∙
             changes pair true e (λ n. ltb-true (s .live) (most g) k) ∙ rw (put-done g p s e k) refl

@@ -11,7 +11,8 @@
 --   Opened      the opening tests on a store and what stands behind it
 --   Edited      put and drop on the writing of a good state
 --   Refused     a call that the tests of lengths refuse
---   Stands      one call where a set stands
+--   Stands      a set that stands in words
+--   Called      one call where a set stands
 --   Sequences   any calls where a set stands
 --   Accounts    their tally, and the pages allowed
 --   Numbers     no fault among the replies
@@ -28,6 +29,7 @@ pub mod Opened
 pub mod Edited
 pub mod Refused
 pub mod Stands
+pub mod Called
 pub mod Sequences
 pub mod Accounts
 pub mod Numbers

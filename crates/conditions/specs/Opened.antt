@@ -36,11 +36,14 @@ module _ (g : Geometry) (fit : InRange g) (s : State) (good : Good g s) where
   abbrev w : List ℕ
   w = writing g s
 
+  nine : 9 ≤ length w
+  nine = lent g (planOf g) w fit refl (good-length g s fit good) .nine
+
   -- A store lent in its exact length passes.
   pub opens : 0 ≡ opening w
   opens =
-      all-pass w (le-leb 9 (length w) (lent g (planOf g) w fit refl (good-length g s fit good) .nine)) (rw (good-geometry g s fit good) (range-tested g fit))
-      (rw (good-geometry g s fit good) (eq-eqb (length w) (storeWords g) (good-length g s fit good)))
+      let stored = good-geometry g s fit good in
+      all-pass w (le-leb 9 (length w) nine) (rw stored (range-tested g fit)) (rw stored (eq-eqb (length w) (storeWords g) (good-length g s fit good)))
 
   -- With more words behind it.
   module _ (rest : List ℕ) where
@@ -60,8 +63,7 @@ module _ (g : Geometry) (fit : InRange g) (s : State) (good : Good g s) where
 
       word-read : (i : ℕ) → i < n → i < 9 → getD v i 0 ≡ getD w i 0
       word-read i h k =
-          getD-take n (w ++ rest) i 0 h ∙
-          List·getD-append w rest 0 i (omega (arith, k, lent g (planOf g) w fit refl (good-length g s fit good) .nine))
+          getD-take n (w ++ rest) i 0 h ∙ List·getD-append w rest 0 i (omega (arith, k, nine))
 
       geometry-read : 9 ≤ n → geometryOf v ≡ g
       unfolding geometryOf

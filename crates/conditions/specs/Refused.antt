@@ -84,7 +84,8 @@ module _ (n : ℕ) (w : List ℕ) where
   opening-refuses checking f e = rw (← (check-refused w n e)) refl
 
 -- The tests of lengths refuse the same of a store that is not lent in its exact length.
-pub length-refuses : (g : Geometry) (lent : ℕ) (task : Task) → ReadsStore task → lent ≢ storeWords g → refusal g (record { lent = lent; task = task }) ≡ 5
+pub length-refuses : (g : Geometry) (lent : ℕ) (task : Task) → ReadsStore task → lent ≢ storeWords g →
+    refusal g (record { lent = lent; task = task }) ≡ 5
 unfolding ReadsStore refusal testsOf firstFailing
 length-refuses g lent (formatting h) f o = absurd f
 length-refuses g lent (changing r work) f o = rw (ne-eqb lent (storeWords g) o, firstFailing) refl

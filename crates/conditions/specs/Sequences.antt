@@ -12,7 +12,8 @@ use Rattle.conditions.specs.Lengths.{geometryThen, geometryAfter}
 use Rattle.conditions.specs.Plain.{Answer, setThen, answers, setAfter, seen}
 use Rattle.conditions.specs.Ruled.{stateThen, stateAfter, pagesWritten}
 use Rattle.conditions.specs.Reports.{pagesReported}
-use Rattle.conditions.specs.Stands.{Stands, call-agrees}
+use Rattle.conditions.specs.Stands.{Stands}
+use Rattle.conditions.specs.Called.{call-agrees}
 
 pub record AllAgree (g : Geometry) (s : State) (set : List Pair) (words : List ℕ) (cs : List Call) : Type 0 where
   pub answered : seen (history words cs) ≡ answers g set cs

@@ -79,11 +79,13 @@ module _ (g : Geometry) where
   settle-from zero i t = omega arith
   settle-from (suc n) i t = told (ltb (length (level i t)) (capacity g i)) refl (settle-from n (suc i) (merge i t))
     where
-      told : (b : Bool) → ltb (length (level i t)) (capacity g i) ≡ b → suc i ≤ (settle g n (suc i) (merge i t)) .deepest → i ≤ (settle g (suc n) i t) .deepest
+      told : (b : Bool) → ltb (length (level i t)) (capacity g i) ≡ b → suc i ≤ (settle g n (suc i) (merge i t)) .deepest →
+          i ≤ (settle g (suc n) i t) .deepest
       told true h rest = rw (settle-stays g n i t h) (omega arith)
       told false h rest = rw (settle-sinks g n i t h) (omega (arith, rest))
 
-  pub head-stays : (n : ℕ) (t : Tree) → 1 ≤ n → ltb (length (level 0 t)) (capacity g 0) ≡ true → settle g n 0 t ≡ record { tree = t; deepest = 0; written = [] }
+  pub head-stays : (n : ℕ) (t : Tree) → 1 ≤ n → ltb (length (level 0 t)) (capacity g 0) ≡ true →
+      settle g n 0 t ≡ record { tree = t; deepest = 0; written = [] }
   head-stays zero t k h = absurd (omega arith)
   head-stays (suc n) t k h = settle-stays g n 0 t h
 
