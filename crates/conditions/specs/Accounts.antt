@@ -21,7 +21,8 @@ use Rattle.promises.specs.Allowed.{reported, reported-allowed}
 use Rattle.index.specs.Reply.{Reply}
 use Rattle.conditions.specs.Calls.{Task, formatting, changing, asking, listing, checking, Call, TaskFits, CallsFit, Made, make, history}
 use Rattle.conditions.specs.Lengths.{refusal, passed, given, geometryThen, geometryAfter}
-use Rattle.conditions.specs.Plain.{Answer, answerTo, answered, setThen, seen-number, refusing-number}
+use Rattle.conditions.specs.Plain.{Answer, answerTo, answered, setThen, refusing-number}
+use Rattle.conditions.specs.Seen.{seen-number}
 use Rattle.conditions.specs.Ruled.{movesTo, writesBy, writes, stateThen, stateAfter}
 use Rattle.conditions.specs.Reports.{Tally, noneYet, pagesIn, tallied, tally}
 use Rattle.conditions.specs.Stands.{Stands}

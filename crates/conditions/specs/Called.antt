@@ -34,7 +34,8 @@ use Rattle.index.specs.Format.{formatTests, formatOf}
 use Rattle.index.specs.Edit.{both-short}
 use Rattle.conditions.specs.Calls.{Task, formatting, changing, asking, listing, checking, Call, TaskFits, comesTo, Made, make}
 use Rattle.conditions.specs.Lengths.{testsOf, refusal, passed, given, geometryThen}
-use Rattle.conditions.specs.Plain.{fillsSlice, answerTo, leaves, answered, setThen, seenOf}
+use Rattle.conditions.specs.Plain.{fillsSlice, answerTo, leaves, answered, setThen}
+use Rattle.conditions.specs.Seen.{seenOf}
 use Rattle.conditions.specs.Ruled.{movesTo, writesBy, stateThen, writes}
 use Rattle.conditions.specs.Reports.{pagesIn}
 use Rattle.conditions.specs.Opened.{opens, whole-lent, rest-stays, other-refused}

@@ -1,8 +1,8 @@
 -- Conditions 2 and 3, over any list of calls from a formatted store of any in-range geometry: any call, format too, with any arguments and any lent
--- lengths. Each definition is the paper's (crates/rules) or a few lines long: Calls and Reports here on words, Lengths for the tests that come first,
--- Plain for the set, Ruled for the rules. Assumes nothing.
+-- lengths. Each definition is the paper's (crates/rules), a call's own promise (crates/index), or a few lines in Calls, Lengths, Plain, Seen, Ruled
+-- and Reports. Assumes nothing.
 use Prim.Native.Nat.{ℕ, _≤_}
-use mathlib.Core.Path.{_≡_}
+use mathlib.Core.Path.{_≡_, refl}
 use mathlib.Core.Bool.{true}
 use mathlib.Core.List.{List, [], _∷_, map}
 use lib.ListN.{length, take}
@@ -19,7 +19,8 @@ use Rattle.rules.specs.Allowance.{allowed}
 use Rattle.index.specs.Check.{checkOf}
 use Rattle.conditions.specs.Calls.{Call, CallsFit, changeOn, Made, make, history, wordsAfter}
 use Rattle.conditions.specs.Lengths.{geometryAfter}
-use Rattle.conditions.specs.Plain.{answers, setAfter, seen}
+use Rattle.conditions.specs.Plain.{answers, setAfter}
+use Rattle.conditions.specs.Seen.{seen}
 use Rattle.conditions.specs.Ruled.{stateAfter, pagesWritten}
 use Rattle.conditions.specs.Reports.{pagesReported, noneYet, tally}
 use Rattle.conditions.specs.Edited.{keptBy, change-kept}
@@ -27,7 +28,7 @@ use Rattle.conditions.specs.Stands.{stands-first, stands-sound, stands-m
 use Rattle.conditions.specs.Sequences.{AllAgree, calls-agree}
 use Rattle.conditions.specs.Accounts.{none-accounts, calls-account, accounts-allowed}
 use Rattle.conditions.specs.Numbers.{noFault, no-faults}
-use Rattle.conditions.specs.Formatted.{formatCall, format-stands, format-long}
+use Rattle.conditions.specs.Formatted.{formatCall, format-makes, format-stands, format-long}
 
 -- Any words with room for the store, formatted, and any calls on them.
 module _ (g : Geometry) (fit : InRange g) (before : List ℕ) (room : storeWords g ≤ length before) (cs : List Call)
@@ -51,10 +52,17 @@ module _ (g : Geometry) (fit : InRange g) (before : List ℕ) (room : storeWords
   abbrev store : List ℕ
   store = take (storeWords now) (wordsAfter begun made)
 
-  agree : AllAgree g (formatted g) [] begun cs
-  agree = calls-agree cs g (formatted g) [] begun (format-stands g fit before room) (rw (format-long g fit before room) fits)
+  -- The format is done.
+  pub format-accepted : (make (formatCall g) before) .reply ≡ record { number = 0; values = 0 ∷ [] }
+  format-accepted = rw (format-makes g fit before room) refl
 
-  -- Condition 2. The answers are those of a plain set of pairs, ..
+  all-fit : CallsFit (length begun) cs
+  all-fit = rw (format-long g fit before room) fits
+
+  agree : AllAgree g (formatted g) [] begun cs
+  agree = calls-agree cs g (formatted g) [] begun (format-stands g fit before room) all-fit
+
+  -- Condition 2. The answers are those of a plain set of pairs with put, drop, ask and list in order, ..
   pub answers-of-the-set : seen made ≡ answers g [] cs
   answers-of-the-set = agree .answered
 
@@ -83,7 +91,7 @@ module _ (g : Geometry) (fit : InRange g) (before : List ℕ) (room : storeWords
   pub pages-allowed : (tally noneYet made) .pages ≤ allowed now ((tally noneYet made) .accepted)
   pages-allowed =
       accounts-allowed now state (tally noneYet made) (agree .after .in-range)
-      (calls-account cs g (formatted g) [] begun noneYet (format-stands g fit before room) (rw (format-long g fit before room) fits) (none-accounts g))
+      (calls-account cs g (formatted g) [] begun noneYet (format-stands g fit before room) all-fit (none-accounts g))
 
   -- The number that each call reports is that of the pages that the merge rules write.
   pub pages-by-the-rules : pagesReported made ≡ map length (pagesWritten g (formatted g) cs)

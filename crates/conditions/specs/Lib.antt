@@ -4,6 +4,7 @@
 --   Calls       any calls on a store's words, one after another
 --   Lengths     the tests of numbers given and lengths lent
 --   Plain       the same calls on a plain set of pairs
+--   Seen        as much of what calls came to as the set can answer
 --   Ruled       the same calls by the rules
 --   Reports     what calls report of pages
 --   Settled     whether an edit of the head merges
@@ -21,6 +22,7 @@
 pub mod Calls
 pub mod Lengths
 pub mod Plain
+pub mod Seen
 pub mod Ruled
 pub mod Reports
 pub mod Settled

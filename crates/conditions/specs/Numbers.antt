@@ -16,7 +16,8 @@ use Rattle.promises.specs.Answers.{answer}
 use Rattle.index.specs.Reply.{Test, firstFailing}
 use Rattle.conditions.specs.Calls.{Task, formatting, changing, asking, listing, checking, Call, Made}
 use Rattle.conditions.specs.Lengths.{testsOf, refusal, passed, geometryThen}
-use Rattle.conditions.specs.Plain.{Answer, fillsSlice, answerTo, refusing, answered, setThen, answers, seenOf, seen, seen-number, refusing-number}
+use Rattle.conditions.specs.Plain.{Answer, fillsSlice, answerTo, refusing, answered, setThen, answers, refusing-number}
+use Rattle.conditions.specs.Seen.{seenOf, seen, seen-number}
 
 -- Any number but 6.
 unfoldable pub noFault : ℕ → Bool

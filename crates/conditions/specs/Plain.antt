@@ -2,7 +2,7 @@
 use Prim.Native.Nat.{ℕ, _+_, _*_, _/_}
 use mathlib.Core.Path.{_≡_, refl}
 use mathlib.Core.Bool.{true, false, cond}
-use mathlib.Core.List.{List, [], _∷_, map}
+use mathlib.Core.List.{List, [], _∷_}
 use lib.ListN.{length, take}
 use lib.Seq.{sets}
 use lib.Dec.{ltb, eqb}
@@ -14,8 +14,7 @@ use Rattle.rules.specs.Listing.{pairWords}
 use Rattle.promises.specs.Plain.{has}
 use Rattle.promises.specs.Answers.{answer}
 use Rattle.promises.specs.Listed.{between}
-use Rattle.index.specs.Reply.{Reply}
-use Rattle.conditions.specs.Calls.{Task, formatting, changing, asking, listing, checking, Call, Made}
+use Rattle.conditions.specs.Calls.{Task, formatting, changing, asking, listing, checking, Call}
 use Rattle.conditions.specs.Lengths.{refusal, passed, geometryThen}
 
 -- What a set can answer: the reply's number, the values that it decides, and the words of list's slice.
@@ -37,21 +36,21 @@ fillsSlice pairs slice =
 
 -- Put and drop tell how many pairs there are then; ask whether the pair is among them, 1 or 0; list those from its first to its second.
 unfoldable pub answerTo : ℕ → Task → List Pair → Answer
-answerTo most (formatting g) set = record { number = 0; values = 0 ∷ []; slice = [] }
-answerTo most (changing r work) set =
-    let a = answer most r set in
+answerTo limit (formatting g) set = record { number = 0; values = 0 ∷ []; slice = [] }
+answerTo limit (changing r work) set =
+    let a = answer limit r set in
     record { number = a .reply; values = cond (eqb (a .reply) 0) (length (a .after)) 0 ∷ []; slice = [] }
-answerTo most (asking p) set = record { number = 0; values = cond (has p set) 1 0 ∷ []; slice = [] }
-answerTo most (listing first second slice) set = fillsSlice (passing (between first second) set) slice
-answerTo most checking set = record { number = 0; values = 0 ∷ []; slice = [] }
+answerTo limit (asking p) set = record { number = 0; values = cond (has p set) 1 0 ∷ []; slice = [] }
+answerTo limit (listing first second slice) set = fillsSlice (passing (between first second) set) slice
+answerTo limit checking set = record { number = 0; values = 0 ∷ []; slice = [] }
 
 -- The set after it.
 unfoldable pub leaves : ℕ → Task → List Pair → List Pair
-leaves most (formatting g) set = []
-leaves most (changing r work) set = (answer most r set) .after
-leaves most (asking p) set = set
-leaves most (listing first second slice) set = set
-leaves most checking set = set
+leaves limit (formatting g) set = []
+leaves limit (changing r work) set = (answer limit r set) .after
+leaves limit (asking p) set = set
+leaves limit (listing first second slice) set = set
+leaves limit checking set = set
 
 -- A refusal returns zeros and changes nothing.
 unfoldable pub refusing : ℕ → Task → Answer
@@ -76,26 +75,7 @@ unfoldable pub setAfter : Geometry → List Pair → List Call → List Pair
 setAfter g set [] = set
 setAfter g set (c ∷ cs) = setAfter (geometryThen g c) (setThen g c set) cs
 
--- As much of what a call came to: of put, drop and ask the first value, for the others are of levels and pages.
-unfoldable pub seenOf : Task → Reply → List ℕ → Answer
-seenOf (formatting g) r beside = record { number = r .number; values = r .values; slice = [] }
-seenOf (changing q work) r beside = record { number = r .number; values = take 1 (r .values); slice = [] }
-seenOf (asking p) r beside = record { number = r .number; values = take 1 (r .values); slice = [] }
-seenOf (listing first second slice) r beside = record { number = r .number; values = r .values; slice = beside }
-seenOf checking r beside = record { number = r .number; values = r .values; slice = [] }
-
-unfoldable pub seen : List Made → List Answer
-seen ms = map (λ m. seenOf (m .task) (m .reply) (m .beside)) ms
-
--- The number of either is the reply's.
-pub seen-number : (task : Task) (r : Reply) (beside : List ℕ) → (seenOf task r beside) .number ≡ r .number
-unfolding seenOf
-seen-number (formatting g) r beside = refl
-seen-number (changing q work) r beside = refl
-seen-number (asking p) r beside = refl
-seen-number (listing first second slice) r beside = refl
-seen-number checking r beside = refl
-
+-- A refusal's number is told.
 pub refusing-number : (n : ℕ) (task : Task) → (refusing n task) .number ≡ n
 unfolding refusing
 refusing-number n (formatting g) = refl

@@ -18,7 +18,8 @@ use Rattle.index.specs.Reply.{firstFailing}
 use Rattle.index.specs.Edit.{zeros, openingBoth, edit-refused, both-refused}
 use Rattle.conditions.specs.Calls.{Task, formatting, changing, asking, listing, checking, Comes, changeOn, comesTo}
 use Rattle.conditions.specs.Lengths.{testsOf, refusal}
-use Rattle.conditions.specs.Plain.{refusing, seenOf}
+use Rattle.conditions.specs.Plain.{refusing}
+use Rattle.conditions.specs.Seen.{seenOf}
 use Rattle.conditions.specs.Reports.{pagesIn}
 
 unfoldable pub zerosOf : Task → List ℕ

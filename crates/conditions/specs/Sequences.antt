@@ -9,7 +9,8 @@ use Rattle.slot.specs.declared.Pair.{Pair}
 use Rattle.rules.specs.Merging.{State}
 use Rattle.conditions.specs.Calls.{Call, CallsFit, make, history, wordsAfter}
 use Rattle.conditions.specs.Lengths.{geometryThen, geometryAfter}
-use Rattle.conditions.specs.Plain.{Answer, setThen, answers, setAfter, seen}
+use Rattle.conditions.specs.Plain.{Answer, setThen, answers, setAfter}
+use Rattle.conditions.specs.Seen.{seen}
 use Rattle.conditions.specs.Ruled.{stateThen, stateAfter, pagesWritten}
 use Rattle.conditions.specs.Reports.{pagesReported}
 use Rattle.conditions.specs.Stands.{Stands}
