@@ -41,7 +41,6 @@ use Rattle.conditions.specs.Reports.{pagesIn}
 use Rattle.conditions.specs.Opened.{opens, whole-lent, rest-stays, other-refused}
 use Rattle.conditions.specs.Edited.{live-told, pages-told, keptBy, change-kept}
 use Rattle.conditions.specs.Refused.{refusedOn, refused-seen, refused-pages, ReadsStore, change-refused, format-refused, opening-refuses, length-refuses}
-
 use Rattle.conditions.specs.Stands.{Stands, empty-stands, stands-sound}
 
 -- A call that comes to the same on the words, on the set and by the rules.
