@@ -29,7 +29,8 @@ use Rattle.good.specs.Edit.{entry, put-cascading, drop-cascading}
 use Rattle.good.specs.Settle.{settle-good}
 use Rattle.good.specs.Within.{within-upper}
 use Rattle.edited.specs.Written.{added-written, removed-written}
-use Rattle.promises.specs.Written.{good-fits, good-reads, good-tree, good-sound}
+use Rattle.good.specs.Cascade.{good-fits}
+use Rattle.promises.specs.Written.{good-reads, good-tree, good-sound}
 use Rattle.change.specs.Change.{liveAfter, toggledBehind, editedBehind, headEdited, fillsHead, Changed, changedHead, changedTree, changeOf, change-merges, change-edits, merge-goes-on}
 use Rattle.change.specs.Head.{head-has-room}
 use Rattle.conditions.specs.Settled.{toggle-adds, toggle-takes, head-decides, below-decides, head-stays, head-merges}
@@ -138,18 +139,18 @@ module _ (g : Geometry) (fit : InRange g) (s : State) (good : Good g s) (p : Pai
 
   added : find p (level 0 t) ≡ absent → headEdited g e false w ≡ writing g begun
   unfolding headEdited editedBehind toggledBehind
-  added f = rw live-read (added-written g s e live fit (good-fits g s fit good) (good .ascends) f roomy)
+  added f = rw live-read (added-written g s e live fit (good-fits g fit s good) (good .ascends) f roomy)
     where
       roomy : suc (length (getD (slotsOf t) 0 [])) ≤ headRoom g
       roomy =
-          let fits = good-fits g s fit good in
+          let fits = good-fits g fit s good in
           let reads = good-reads g s fit good in
           let right = directory-right g s w fit good fits reads in
           omega (arith, head-has-room g w fit right (head-right g s w fit good fits reads), ap length (reads .head-slots))
 
   removed : (b : Bool) → find p (level 0 t) ≡ met b → headEdited g e true w ≡ writing g begun
   unfolding headEdited editedBehind toggledBehind
-  removed b f = rw live-read (removed-written g s e live fit (good-fits g s fit good) (good .ascends) b f)
+  removed b f = rw live-read (removed-written g s e live fit (good-fits g fit s good) (good .ascends) b f)
 
   -- So in either case.
   pub change-written : (work : List ℕ) → changeOf g e own w work ≡ ruledChange g live (edit g e t) work
