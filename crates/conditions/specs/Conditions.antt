@@ -40,17 +40,17 @@ module _ (g : Geometry) (fit : InRange g) (before : List ℕ) (room : storeWords
   made = history begun cs
 
   -- After them: the geometry in force, the plain set, the state that the rules give, and the store, which is the first of the caller's words.
-  abbrev now : Geometry
-  now = geometryAfter g cs
+  abbrev inForce : Geometry
+  inForce = geometryAfter g cs
 
-  abbrev set : List Pair
-  set = setAfter g [] cs
+  abbrev pairs : List Pair
+  pairs = setAfter g [] cs
 
   abbrev state : State
   state = stateAfter g (formatted g) cs
 
   abbrev store : List ℕ
-  store = take (storeWords now) (wordsAfter begun made)
+  store = take (storeWords inForce) (wordsAfter begun made)
 
   -- The format is done.
   pub format-accepted : (make (formatCall g) before) .reply ≡ record { number = 0; values = 0 ∷ [] }
@@ -67,30 +67,30 @@ module _ (g : Geometry) (fit : InRange g) (before : List ℕ) (room : storeWords
   answers-of-the-set = agree .answered
 
   -- .. no larger than M. None is a fault.
-  pub set-at-most : length set ≤ most now
-  set-at-most = stands-most now state set (wordsAfter begun made) (agree .after)
+  pub set-at-most : length pairs ≤ most inForce
+  set-at-most = stands-most inForce state pairs (wordsAfter begun made) (agree .after)
 
   pub never-a-fault : all (λ m. noFault (m .reply .number)) made ≡ true
   never-a-fault = no-faults made g [] cs answers-of-the-set
 
   -- The store is word by word the writing of the tree that the merge rules give.
-  pub store-is-the-writing : store ≡ writing now state
-  store-is-the-writing = stands-first now state set (wordsAfter begun made) (agree .after)
+  pub store-is-the-writing : store ≡ writing inForce state
+  store-is-the-writing = stands-first inForce state pairs (wordsAfter begun made) (agree .after)
 
   -- It stays sound: check is done on it.
   pub store-sound : checkOf store ≡ record { number = 0; values = 0 ∷ [] }
-  store-sound = rw store-is-the-writing (stands-sound now state set (wordsAfter begun made) (agree .after))
+  store-sound = rw store-is-the-writing (stands-sound inForce state pairs (wordsAfter begun made) (agree .after))
 
   -- A put or drop on it replies as the rules do, with all their values, and leaves every word of store and work area as they say.
-  pub change-by-the-rules : (r : Request) (work : List ℕ) → Words (pairIn r) → length work ≡ workWords now →
-      changeOn r store work ≡ keptBy now (step now r state) work
+  pub change-by-the-rules : (r : Request) (work : List ℕ) → Words (pairIn r) → length work ≡ workWords inForce →
+      changeOn r store work ≡ keptBy inForce (step inForce r state) work
   change-by-the-rules r work pair exact =
-      rw store-is-the-writing (change-kept now (agree .after .in-range) state (agree .after .holds .good) work exact r pair)
+      rw store-is-the-writing (change-kept inForce (agree .after .in-range) state (agree .after .holds .good) work exact r pair)
 
   -- Condition 3. The sum of the pages reported is at most what is allowed to the number of puts and drops accepted, both counted since the last format.
-  pub pages-allowed : (tally noneYet made) .pages ≤ allowed now ((tally noneYet made) .accepted)
+  pub pages-allowed : (tally noneYet made) .pages ≤ allowed inForce ((tally noneYet made) .accepted)
   pages-allowed =
-      accounts-allowed now state (tally noneYet made) (agree .after .in-range)
+      accounts-allowed inForce state (tally noneYet made) (agree .after .in-range)
       (calls-account cs g (formatted g) [] begun noneYet (format-stands g fit before room) all-fit (none-accounts g))
 
   -- The number that each call reports is that of the pages that the merge rules write.

@@ -16,7 +16,7 @@ use Rattle.rules.specs.Finding.{Met, absent, met, find}
 use Rattle.rules.specs.Merging.{merge, settle, toggle}
 use Rattle.entries.specs.Ascending.{From, find-here, find-on, find-above}
 use Rattle.finding.specs.Asked.{deciding, deciding-met, deciding-absent, decider}
-use Rattle.good.specs.Rising.{Compared, earlier, equal, later, compared}
+use Rattle.good.specs.Comparing.{Compared, earlier, equal, later, compared}
 use Rattle.good.specs.Toggle.{toggle-before, toggle-cancels, toggle-after, find-nothing}
 use Rattle.good.specs.Settle.{settle-stays, settle-sinks}
 
