@@ -12,6 +12,7 @@ use index::Checked;
 use index::Shown;
 use libc::STDIN_FILENO;
 use libc::STDOUT_FILENO;
+use script::word_at;
 use slot::Pair;
 use slot::Rid;
 
@@ -195,24 +196,6 @@ fn pair_at(script: &[u8], at: usize) -> Pair
         badge: word_at(script, at),
         floor: Rid(word_at(script, at + 4)),
     }
-}
-
-// The number at a place of the script, 0 past its end.
-fn word_at(script: &[u8], at: usize) -> u32 {
-    if script.len() < 4 {
-        return 0;
-    }
-    if script.len() - 4 < at {
-        return 0;
-    }
-    let low = wide(script[at]) + 256 * wide(script[at + 1]);
-    low + 65536 * (wide(script[at + 2]) + 256 * wide(script[at + 3]))
-}
-
-fn wide(x: u8) -> u32
-    ensures { λ r. ⌜ r < 256 ⌝ }
-{
-    x as u32
 }
 
 fn least(a: usize, b: usize) -> usize
