@@ -28,6 +28,7 @@ pub mod damage;
 pub mod digest;
 pub mod generate;
 pub mod pairs;
+pub mod plan;
 pub mod random;
 pub mod replay;
 pub mod sheets;

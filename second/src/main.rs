@@ -6,8 +6,8 @@ use std::process::ExitCode;
 use second::damage::damaged;
 use second::generate::sequence;
 use second::geometry::Geometry;
+use second::plan::{Plan, LIST};
 use second::random::Random;
-use second::replay::Replay;
 use second::script::Script;
 use second::variant::Variant;
 use second::vectors::{self, Case, Tally};
@@ -23,7 +23,8 @@ const USAGE: &str = "usage:
   second sequences [--seed S] [--calls N] H,k,l...
   second damaged [--seed S] [--cases N]
   second script [--seed S] [--cases N] FOLDER FILE...
-  second replay [--build NAME] [--seed S] [--calls N] [--every E] [--damage D] H,k,l...";
+  second replay [--build NAME] [--seed S] [--calls N] [--every E] [--damage D] H,k,l...
+  second replays FOLDER";
 
 /// Every option.
 const OPTIONS: [&str; 6] = [
@@ -56,6 +57,7 @@ fn main() -> ExitCode {
         "damaged" => print_damaged(&line),
         "script" => write_script(&line),
         "replay" => print_replay(&line),
+        "replays" => write_replays(&line),
         _ => Err(USAGE.to_string()),
     });
     match outcome {
@@ -177,14 +179,23 @@ fn write_script(line: &Line) -> Result<bool, String> {
     for case in cases.iter().filter(|case| case.store.len() <= SCRIPT_WORDS) {
         script.add(case);
     }
-    let bytes: Vec<u8> = script
-        .numbers
-        .iter()
-        .flat_map(|n| n.to_le_bytes())
-        .collect();
     let lines: String = script.lines.iter().map(|l| format!("{l}\n")).collect();
+    write_run(folder, &script.numbers, &lines)
+}
+
+/// Writes the list of replays as a folder's stdin, and what they print as its stdout.
+fn write_replays(line: &Line) -> Result<bool, String> {
+    let folder = line.rest.first().ok_or(USAGE)?;
+    let plans = LIST.iter().filter_map(|numbers| Plan::of(*numbers));
+    let text: String = plans.map(|plan| plan.text(Variant::Right)).collect();
+    write_run(folder, LIST.as_flattened(), &text)
+}
+
+/// Writes what a program reads, numbers lowest byte first, and what it must print, in its folder.
+fn write_run(folder: &str, numbers: &[u32], text: &str) -> Result<bool, String> {
+    let bytes: Vec<u8> = numbers.iter().flat_map(|n| n.to_le_bytes()).collect();
     write_file(folder, "stdin", &bytes)?;
-    write_file(folder, "stdout", lines.as_bytes())
+    write_file(folder, "stdout", text.as_bytes())
 }
 
 /// Writes a file of a folder.
@@ -197,15 +208,16 @@ fn write_file(folder: &str, name: &str, bytes: &[u8]) -> Result<bool, String> {
 /// Prints the digests of a replay for each geometry.
 fn print_replay(line: &Line) -> Result<bool, String> {
     let variant = line.option("--build", Variant::Right)?;
-    let seed: u32 = line.option("--seed", 1)?;
-    let calls = line.option("--calls", 10_000)?;
-    let every = line.option("--every", 1_000)?;
     let damage: usize = line.option("--damage", 0)?;
-    let damage = (damage > 0).then_some(damage);
     for geometry in line.geometries()? {
-        let replay = Replay::new(variant, geometry, seed, damage);
-        let lines = replay.lines(calls, every).join("\n");
-        print_bytes(format!("replay {geometry} seed {seed}\n{lines}\n").as_bytes())?;
+        let plan = Plan {
+            geometry,
+            seed: line.option("--seed", 1)?,
+            calls: line.option("--calls", 10_000)?,
+            interval: line.option("--every", 1_000)?,
+            damage: (damage > 0).then_some(damage),
+        };
+        print_bytes(plan.text(variant).as_bytes())?;
     }
     Ok(true)
 }

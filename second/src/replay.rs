@@ -98,8 +98,7 @@ impl Replay {
     pub fn lines(mut self, calls: usize, interval: usize) -> Vec<String> {
         let mut lines = Vec::new();
         while self.calls < calls {
-            self.prepare();
-            self.call();
+            self.step();
             if self.calls == calls || self.calls.is_multiple_of(interval.max(1)) {
                 lines.push(self.line());
             }
@@ -111,8 +110,7 @@ impl Replay {
     pub fn first_difference(mut self, mut other: Replay, calls: usize) -> Option<usize> {
         while self.calls < calls {
             for replay in [&mut self, &mut other] {
-                replay.prepare();
-                replay.call();
+                replay.step();
             }
             let same = self.store == other.store
                 && self.work == other.work
@@ -122,6 +120,17 @@ impl Replay {
             }
         }
         None
+    }
+
+    /// Makes the next call, with what comes before it.
+    pub fn step(&mut self) -> Reply {
+        self.prepare();
+        self.call()
+    }
+
+    /// The store as it stands.
+    pub fn store(&self) -> &[u32] {
+        &self.store
     }
 
     /// What comes before a call: a fresh work area, a new round, or damage.
@@ -148,11 +157,11 @@ impl Replay {
         self.work = numbered(0, self.geometry.work_words());
         self.filling = true;
         let reply = calls::format(self.variant, &mut self.store, head, ratio, levels);
-        self.note(&reply);
+        self.note(reply);
     }
 
     /// Makes one call.
-    fn call(&mut self) {
+    fn call(&mut self) -> Reply {
         self.calls += 1;
         match self.draw(64) {
             0..44 if self.filling => self.put(0),
@@ -164,53 +173,56 @@ impl Replay {
             62 => self.list(),
             _ => {
                 let reply = calls::check(self.variant, &self.store);
-                self.note(&reply);
+                self.note(reply)
             }
         }
     }
 
     /// Puts a pair, lent the work area without so many of its last words.
-    fn put(&mut self, short: usize) {
+    fn put(&mut self, short: usize) -> Reply {
         let pair = self.pair();
         let lent = self.work.len() - short;
         let work = &mut self.work[..lent];
         let reply = calls::put(self.variant, &mut self.store, work, pair);
-        self.note(&reply);
+        let reply = self.note(reply);
         if reply.number == FULL && self.draw(4) == 0 {
             self.filling = false;
         }
+        reply
     }
 
     /// Drops a pair.
-    fn drop(&mut self) {
+    fn drop(&mut self) -> Reply {
         let pair = self.pair();
         let reply = calls::drop(self.variant, &mut self.store, &mut self.work, pair);
-        self.note(&reply);
         if reply.number == 0 && reply.values[0] as usize <= self.geometry.most() / 4 {
             self.filling = true;
         }
+        self.note(reply)
     }
 
     /// Asks for a pair.
-    fn ask(&mut self) {
+    fn ask(&mut self) -> Reply {
         let pair = self.pair();
         let reply = calls::ask(self.variant, &self.store, pair);
-        self.note(&reply);
+        self.note(reply)
     }
 
     /// Lists from one pair to another.
-    fn list(&mut self) {
+    fn list(&mut self) -> Reply {
         let (first, last) = (self.pair(), self.pair());
         let mut slice = numbered(1000, self.draw(50) as usize);
         let reply = calls::list(self.variant, &self.store, first, last, &mut slice);
-        self.note(&reply);
+        let reply = self.note(reply);
         self.replies.add(&slice);
+        reply
     }
 
-    /// Gives a reply to the digest of replies.
-    fn note(&mut self, reply: &Reply) {
+    /// Gives a reply to the digest of replies, and hands it on.
+    fn note(&mut self, reply: Reply) -> Reply {
         self.replies.add(&[reply.number]);
         self.replies.add(&reply.values);
+        reply
     }
 
     /// Damages one word of the store.

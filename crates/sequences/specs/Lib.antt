@@ -1,0 +1,2 @@
+-- What the functions of the sequences program ask of their arguments.
+pub mod Fit
