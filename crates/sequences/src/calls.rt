@@ -1,5 +1,5 @@
 // The calls of a sequence: each draws what it needs, is made, and gives its reply to the digest of replies.
-ghost use Prim.Native.Nat.{_≤_, _<_};
+ghost use Prim.Native.Nat.{_≤_};
 ghost use lib.ListN.{length};
 ghost use Rattle.sequences.specs.Fit.{Fit, WorkFit};
 use crate::Sequence;

@@ -125,7 +125,7 @@ fn run(s: Sequence, store: &mut [u32], work: &mut [u32])
     }
 }
 
-// One call, the how many-th it is, with what comes before it and the line after it.
+// One call, with what comes before it and the line after it; so many calls are made then.
 fn turn(s: Sequence, before: State, calls: u32, store: &mut [u32], work: &mut [u32]) -> State
     requires { ⌜ Fit s (length (now store)) ⌝ }
     requires { ⌜ WorkFit (length (now work)) ⌝ }
