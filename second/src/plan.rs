@@ -15,7 +15,8 @@ pub struct Plan {
     pub damage: Option<usize>,
 }
 
-/// The list: H, k, l, the seed, the calls, the interval, and the damage (0 for none).
+/// The list: H, k, l, the seed, the calls, the interval, and the damage (0 for none). The longest
+/// comes last.
 pub const LIST: [[u32; 7]; 12] = [
     [1, 2, 2, 7, 2_000, 500, 0],
     [1, 2, 4, 7, 2_000, 500, 0],
@@ -23,12 +24,12 @@ pub const LIST: [[u32; 7]; 12] = [
     [21, 2, 2, 7, 4_000, 1_000, 0],
     [10, 4, 3, 7, 6_000, 1_000, 0],
     [16, 4, 3, 7, 6_000, 1_000, 0],
-    [64, 8, 4, 7, 18_000, 2_000, 0],
     [1, 2, 2, 11, 1_400, 100, 20],
     [4, 2, 3, 11, 1_400, 100, 60],
     [21, 2, 2, 11, 2_000, 200, 100],
     [10, 4, 3, 11, 2_400, 200, 200],
     [16, 4, 3, 11, 2_400, 200, 400],
+    [64, 8, 4, 7, 14_000, 2_000, 0],
 ];
 
 impl Plan {
