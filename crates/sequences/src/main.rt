@@ -22,6 +22,7 @@ use geometry::Plan;
 use libc::STDIN_FILENO;
 use lines::digest_line;
 use lines::title_line;
+use script::word_at;
 
 // A sequence to make. M and the words before level 1 follow from the geometry.
 pub struct Sequence {
@@ -232,22 +233,4 @@ pub fn number_words(words: &mut [u32], first: u32)
         words[i] = first + i as u32;
         i += 1;
     }
-}
-
-// The number at a place of the list, 0 past its end.
-fn word_at(list: &[u8], at: usize) -> u32 {
-    if list.len() < 4 {
-        return 0;
-    }
-    if list.len() - 4 < at {
-        return 0;
-    }
-    let low = wide(list[at]) + 256 * wide(list[at + 1]);
-    low + 65536 * (wide(list[at + 2]) + 256 * wide(list[at + 3]))
-}
-
-fn wide(x: u8) -> u32
-    ensures { λ r. ⌜ r < 256 ⌝ }
-{
-    x as u32
 }
