@@ -32,7 +32,7 @@ use Rattle.entries.specs.Levels.{PagesWithin}
 use Rattle.edit.specs.Head.{entryAdded}
 use Rattle.stored.specs.Fitting.{WordsFit}
 use Rattle.stored.specs.Back.{stateOf}
-use Rattle.finding.specs.Asked.{decider, deciding-met}
+use Rattle.finding.specs.Asked.{decider, head-decides}
 use Rattle.good.specs.Edit.{entry, put-cascading, drop-cascading}
 use Rattle.good.specs.Settle.{settledState, settle-good}
 use Rattle.edited.specs.Reach.{reach}
@@ -95,12 +95,6 @@ fills-anew g w e n fills accepted =
     let apart : n ≢ 0 = eqb-false n 0 other in
     record { level = n; below = omega (arith, apart); accepted = accepted }
 
--- An entry in the head decides at level 0.
-top-decides : (p : Pair) (t : Tree) (b : Bool) → find p (level 0 t) ≡ met b → decider p t ≡ 0
-unfolding decider find
-top-decides p [] b h = absurd (let z : _≡_ {A = ℕ} 0 1 = cc in omega arith)
-top-decides p (es ∷ lower) b h = deciding-met p 0 es lower b h
-
 -- A sound store w, and the store v after the edit.
 module _ (g : Geometry) (plan : Plan) (w v : List ℕ) (p : Pair) (normal : Bool) (behind : ℕ) (lends : Lent g plan w) (fits : WordsFit w) (fits-after : WordsFit v)
     (anew : AcceptedAnew g w (entry p normal)) (reached : behind ≡ reach p (headSlots g w)) (edits : v ≡ editedBehind (entry p normal) behind false w)
@@ -141,7 +135,7 @@ module _ (g : Geometry) (plan : Plan) (w v : List ℕ) (p : Pair) (normal : Bool
     where
       by-entry : (m : Met) → find p (level 0 t) ≡ m → m ≡ absent
       by-entry absent h = refl
-      by-entry (met b) h = absurd (omega (arith, anew .below, level-told, top-decides p t b h))
+      by-entry (met b) h = absurd (omega (arith, anew .below, level-told, head-decides p t b h))
 
   -- So the edited store is the writing of the state with its head toggled, from where a cascade may begin.
   abbrev live : ℕ

@@ -23,7 +23,7 @@ use Rattle.rules.specs.Store.{writing}
 use Rattle.rules.specs.Sound.{headSlots, entriesOf, treeOf, ascending, sound}
 use Rattle.rules.specs.Good.{Good, Cascading}
 use Rattle.entries.specs.Ascending.{from-ascending}
-use Rattle.finding.specs.Asked.{decider}
+use Rattle.finding.specs.Asked.{decider, head-decides, below-decides}
 use Rattle.finding.specs.Formed.{directory-right, head-right}
 use Rattle.good.specs.Edit.{entry, put-cascading, drop-cascading}
 use Rattle.good.specs.Settle.{settle-good}
@@ -33,7 +33,7 @@ use Rattle.good.specs.Cascade.{good-fits}
 use Rattle.promises.specs.Written.{good-reads, good-tree, good-sound}
 use Rattle.change.specs.Change.{liveAfter, toggledBehind, editedBehind, headEdited, fillsHead, Changed, changedHead, changedTree, changeOf, change-merges, change-edits, merge-goes-on}
 use Rattle.change.specs.Head.{head-has-room}
-use Rattle.conditions.specs.Settled.{toggle-adds, toggle-takes, head-decides, below-decides, head-stays, head-merges}
+use Rattle.conditions.specs.Settled.{toggle-adds, toggle-takes, head-stays, head-merges}
 
 -- The work area after a call: all ones where it merged, else as it was.
 unfoldable pub workAfter : ℕ → List ℕ → List ℕ

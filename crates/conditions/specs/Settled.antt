@@ -8,14 +8,12 @@ use lib.ListN.{length}
 use lib.Dec.{ltb}
 use Rattle.geometry.specs.declared.Geometry.{Geometry}
 use Rattle.geometry.specs.Geometry.{capacity}
-use Rattle.slot.specs.declared.Pair.{Pair}
 use Rattle.slot.specs.Pair.{rank}
 use Rattle.slot.specs.Order.{before-below, apart-not-same}
 use Rattle.rules.specs.Tree.{Entry, Level, Tree, level}
 use Rattle.rules.specs.Finding.{Met, absent, met, find}
 use Rattle.rules.specs.Merging.{merge, settle, toggle}
 use Rattle.entries.specs.Ascending.{From, find-here, find-on, find-above}
-use Rattle.finding.specs.Asked.{deciding, deciding-met, deciding-absent, decider}
 use Rattle.good.specs.Comparing.{Compared, earlier, equal, later, compared}
 use Rattle.good.specs.Toggle.{toggle-before, toggle-cancels, toggle-after, find-nothing}
 use Rattle.good.specs.Settle.{settle-stays, settle-sinks}
@@ -50,27 +48,6 @@ module _ (e : Entry) where
       stands (later l) rest =
           let apart = apart-not-same (e .pair) (f .pair) (λ q. omega (arith, q, before-below (f .pair) (e .pair) l)) in
           rw (toggle-after e f fs l) (omega (arith, rest (sym (find-on (e .pair) f fs apart) ∙ h)))
-
--- The head decides just where it has an entry of the pair.
-module _ (p : Pair) where
-  deciding-from : (i : ℕ) (t : Tree) → i ≤ deciding p i t
-  unfolding deciding
-  deciding-from i [] = omega arith
-  deciding-from i (es ∷ t) = stands (find p es) refl (deciding-from (suc i) t)
-    where
-      stands : (m : Met) → find p es ≡ m → suc i ≤ deciding p (suc i) t → i ≤ deciding p i (es ∷ t)
-      stands absent f rest = rw (deciding-absent p i es t f) (omega (arith, rest))
-      stands (met b) f rest = rw (deciding-met p i es t b f) (omega arith)
-
-  pub head-decides : (t : Tree) (b : Bool) → find p (level 0 t) ≡ met b → decider p t ≡ 0
-  unfolding decider
-  head-decides [] b f = absurd (no-entry b (sym (find-nothing p) ∙ f))
-  head-decides (es ∷ t) b f = deciding-met p 0 es t b f
-
-  pub below-decides : (t : Tree) → 1 ≤ length t → find p (level 0 t) ≡ absent → 1 ≤ decider p t
-  unfolding decider
-  below-decides [] k f = absurd (omega arith)
-  below-decides (es ∷ t) k f = rw (deciding-absent p 0 es t f) (deciding-from 1 t)
 
 -- A head with fewer entries than its capacity stays, and any other is merged on.
 module _ (g : Geometry) where

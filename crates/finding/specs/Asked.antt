@@ -1,6 +1,7 @@
 -- On the slots of a good tree the walk's answer is whether the topmost entry of the pair is normal, and its deciding level is that
 -- entry's. Assumes nothing.
-use Prim.Native.Nat.{ℕ, suc}
+use Prim.Native.Nat.{ℕ, suc, _≤_}
+use native.Mathlib.Omega.{arith}
 use mathlib.Core.Path.{_≡_, refl, sym, _∙_}
 use mathlib.Core.Bool.{Bool, true, false}
 use mathlib.Core.List.{List, [], _∷_}
@@ -10,7 +11,7 @@ use Rattle.laws.specs.Flat.{all-first, all-rest}
 use Rattle.geometry.specs.declared.Geometry.{Geometry}
 use Rattle.slot.specs.declared.Pair.{Pair}
 use Rattle.slot.specs.declared.Slot.{Slot}
-use Rattle.rules.specs.Tree.{Level, Tree}
+use Rattle.rules.specs.Tree.{Level, Tree, level}
 use Rattle.rules.specs.Level.{pagesFor, pageOf, firstOf, weave, laid, slotsOf}
 use Rattle.rules.specs.Finding.{Met, absent, met, find, held, decided, follow, nothing, tell, Answer, walk, ask}
 use Rattle.rules.specs.Merging.{State}
@@ -138,3 +139,24 @@ ask-held g s p good = ask-finds p (s .tree) (good .ascends) .is-held
 pub ask-decider : (g : Geometry) (s : State) (p : Pair) → Good g s → (ask p (slotsOf (s .tree))) .decider ≡ decider p (s .tree)
 unfolding decider
 ask-decider g s p good = ask-finds p (s .tree) (good .ascends) .decides
+
+-- The head decides just where it has an entry of the pair.
+module _ (p : Pair) where
+  deciding-from : (i : ℕ) (t : Tree) → i ≤ deciding p i t
+  unfolding deciding
+  deciding-from i [] = omega arith
+  deciding-from i (es ∷ t) = stands (find p es) refl (deciding-from (suc i) t)
+    where
+      stands : (m : Met) → find p es ≡ m → suc i ≤ deciding p (suc i) t → i ≤ deciding p i (es ∷ t)
+      stands absent f rest = rw (deciding-absent p i es t f) (omega (arith, rest))
+      stands (met b) f rest = rw (deciding-met p i es t b f) (omega arith)
+
+  pub head-decides : (t : Tree) (b : Bool) → find p (level 0 t) ≡ met b → decider p t ≡ 0
+  unfolding decider find
+  head-decides [] b f = absurd (let z : _≡_ {A = ℕ} 0 1 = cc in omega arith)
+  head-decides (es ∷ t) b f = deciding-met p 0 es t b f
+
+  pub below-decides : (t : Tree) → 1 ≤ length t → find p (level 0 t) ≡ absent → 1 ≤ decider p t
+  unfolding decider
+  below-decides [] k f = absurd (omega arith)
+  below-decides (es ∷ t) k f = rw (deciding-absent p 0 es t f) (deciding-from 1 t)
