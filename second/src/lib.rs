@@ -24,6 +24,7 @@ pub mod call;
 pub mod cases;
 pub mod vectors;
 
+pub mod beside;
 pub mod damage;
 pub mod digest;
 pub mod generate;
@@ -32,3 +33,6 @@ pub mod plan;
 pub mod random;
 pub mod replay;
 pub mod sheets;
+
+#[cfg(feature = "library")]
+pub mod library;

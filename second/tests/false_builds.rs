@@ -2,6 +2,7 @@
 
 mod common;
 
+use second::beside::Beside;
 use second::geometry::Geometry;
 use second::replay::Replay;
 use second::variant::{Variant, FALSE_BUILDS};
@@ -52,4 +53,16 @@ fn a_large_replay_finds_a_page_number_cut_to_a_byte() {
     let geometry = common::geometry("64,8,4");
     let found = replay_finds(Variant::PageByte, geometry, 16_000);
     assert!(found.is_some());
+}
+
+#[test]
+fn beside_the_right_build_all_but_a_page_number_cut_to_a_byte_are_found() {
+    for variant in [Variant::Right].into_iter().chain(FALSE_BUILDS) {
+        let mut beside = Beside::new(&variant);
+        let found = ["4,2,3", "10,4,3"]
+            .iter()
+            .any(|text| beside.sequence(1, common::geometry(text), 1000).is_err());
+        let right = [Variant::Right, Variant::PageByte].contains(&variant);
+        assert_eq!(found, !right, "{variant:?}");
+    }
 }

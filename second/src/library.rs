@@ -1,0 +1,138 @@
+//! The proved implementation through its C interface, include/landing.h, behind safe functions.
+//!
+//! Each gives the reply number and fills `out`. A slice goes over as a pointer and a length.
+
+mod c {
+    extern "C" {
+        pub fn landing_format(store: *mut u32, n: usize, h: u32, k: u32, l: u32) -> u32;
+        pub fn landing_put(
+            store: *mut u32,
+            n: usize,
+            work: *mut u32,
+            m: usize,
+            badge: u32,
+            floor: u32,
+            out: *mut [u32; 7],
+        ) -> u32;
+        pub fn landing_drop(
+            store: *mut u32,
+            n: usize,
+            work: *mut u32,
+            m: usize,
+            badge: u32,
+            floor: u32,
+            out: *mut [u32; 7],
+        ) -> u32;
+        pub fn landing_ask(
+            store: *const u32,
+            n: usize,
+            badge: u32,
+            floor: u32,
+            out: *mut [u32; 2],
+        ) -> u32;
+        pub fn landing_list(
+            store: *const u32,
+            n: usize,
+            badge1: u32,
+            floor1: u32,
+            badge2: u32,
+            floor2: u32,
+            list: *mut u32,
+            m: usize,
+            out: *mut [u32; 2],
+        ) -> u32;
+        pub fn landing_check(store: *const u32, n: usize, out: *mut [u32; 1]) -> u32;
+        pub fn landing_store_words(h: u32, k: u32, l: u32) -> u32;
+        pub fn landing_work_words(h: u32, k: u32, l: u32) -> u32;
+    }
+}
+
+// Safety, of every call below: the pointers and lengths are those of slices that the caller lends
+// for the call, the mutable ones alone; the interface asks for nothing else.
+
+/// Makes the store of the empty set.
+pub fn format(store: &mut [u32], head: u32, ratio: u32, levels: u32) -> u32 {
+    unsafe { c::landing_format(store.as_mut_ptr(), store.len(), head, ratio, levels) }
+}
+
+/// Puts a pair: live pairs, the deepest level, pages written, and the entries of four levels.
+pub fn put(store: &mut [u32], work: &mut [u32], badge: u32, floor: u32, out: &mut [u32; 7]) -> u32 {
+    let (n, m) = (store.len(), work.len());
+    unsafe {
+        c::landing_put(
+            store.as_mut_ptr(),
+            n,
+            work.as_mut_ptr(),
+            m,
+            badge,
+            floor,
+            out,
+        )
+    }
+}
+
+/// Drops a pair, with the values of a put.
+pub fn drop(
+    store: &mut [u32],
+    work: &mut [u32],
+    badge: u32,
+    floor: u32,
+    out: &mut [u32; 7],
+) -> u32 {
+    let (n, m) = (store.len(), work.len());
+    unsafe {
+        c::landing_drop(
+            store.as_mut_ptr(),
+            n,
+            work.as_mut_ptr(),
+            m,
+            badge,
+            floor,
+            out,
+        )
+    }
+}
+
+/// Asks for a pair: held or not, and the deciding level.
+pub fn ask(store: &[u32], badge: u32, floor: u32, out: &mut [u32; 2]) -> u32 {
+    unsafe { c::landing_ask(store.as_ptr(), store.len(), badge, floor, out) }
+}
+
+/// Lists the held pairs from the first to the last: the pairs written, and the mark.
+pub fn list(
+    store: &[u32],
+    first: (u32, u32),
+    last: (u32, u32),
+    slice: &mut [u32],
+    out: &mut [u32; 2],
+) -> u32 {
+    let m = slice.len();
+    unsafe {
+        c::landing_list(
+            store.as_ptr(),
+            store.len(),
+            first.0,
+            first.1,
+            last.0,
+            last.1,
+            slice.as_mut_ptr(),
+            m,
+            out,
+        )
+    }
+}
+
+/// Tests the whole store.
+pub fn check(store: &[u32], out: &mut [u32; 1]) -> u32 {
+    unsafe { c::landing_check(store.as_ptr(), store.len(), out) }
+}
+
+/// The words of a store, or 0 outside the ranges.
+pub fn store_words(head: u32, ratio: u32, levels: u32) -> u32 {
+    unsafe { c::landing_store_words(head, ratio, levels) }
+}
+
+/// The words of a work area, or 0 outside the ranges.
+pub fn work_words(head: u32, ratio: u32, levels: u32) -> u32 {
+    unsafe { c::landing_work_words(head, ratio, levels) }
+}
