@@ -1,0 +1,89 @@
+-- What the answers of src/lib.rt tell of the lines from a place of the input on. Assumes nothing.
+use Prim.Native.Nat.{ℕ, zero, suc, _+_, _≤_, _<_}
+use native.Mathlib.Omega.{arith}
+use mathlib.Core.Path.{_≡_, refl, sym, ap, _∙_}
+use mathlib.Core.Bool.{Bool, true, false}
+use mathlib.Core.List.{List, [], _∷_}
+use mathlib.Core.Option.{Option, some, none}
+use lib.ListN.{length, drop}
+use Rattle.geometry.specs.declared.Geometry.{Geometry}
+use Rattle.geometry.specs.Geometry.{InRange}
+use Rattle.geometry.specs.Places.{storeWords}
+use Rattle.reading.specs.declared.Operation.{Operation}
+use Rattle.reading.specs.declared.Request.{Request}
+use Rattle.reading.specs.declared.Value.{Value}
+use Rattle.reading.specs.declared.Value.the-variants.{Number, Faulty as FaultyValue}
+use Rattle.reading.specs.declared.Named.{Named}
+use Rattle.reading.specs.declared.Named.the-variants.{Known, Unknown}
+use Rattle.reading.specs.declared.Group.{Group}
+use Rattle.reading.specs.declared.Group.the-variants.{Read, Faulty as FaultyGroup}
+use Rattle.reading.specs.declared.Requests.{Requests}
+use Rattle.reading.specs.declared.Requests.the-variants.{Faulty as FaultyRequests, Good as GoodRequests}
+use Rattle.reading.specs.declared.Judgement.{Judgement}
+use Rattle.reading.specs.declared.Judgement.the-variants.{Faulty as FaultySheet, Good as GoodSheet}
+use Rattle.reading.specs.Lines.{Line, linesOf, firstOf, restOf}
+use Rattle.reading.specs.Sheet.{Judged, faulty, good, Sheet, sheetFor, joined, operation, requestsFrom, judgedLines, judged, mostBytes, mostWords}
+
+-- The lines from a place on.
+abbrev pub ahead : List ℕ → ℕ → List Line
+ahead w at = linesOf (drop at w)
+
+-- A line that was read: the next one begins at a place past so many bytes, and inside the input.
+pub record Onward (w : List ℕ) (at past next : ℕ) : Type 0 where
+  pub follows : restOf (ahead w at) ≡ ahead w next
+  pub passes : at + past < next
+  pub within : next ≤ length w
+
+-- A number that a line was read as, or that it is faulty.
+abbrev pub ReadAs : List ℕ → ℕ → ℕ → (Line → Option ℕ) → Value → Type 0
+ReadAs w at past number (Number n next) = (number (firstOf (ahead w at)) ≡ some n) × Onward w at past next
+ReadAs w at past number FaultyValue = number (firstOf (ahead w at)) ≡ none
+
+-- An operation that a line names, or that it names none.
+abbrev pub NamedAs : List ℕ → ℕ → Named → Type 0
+NamedAs w at (Known op next) = (operation (firstOf (ahead w at)) ≡ some op) × Onward w at 6 next
+NamedAs w at Unknown = operation (firstOf (ahead w at)) ≡ none
+
+-- A group's request, before those that follow it; or its faulty line.
+pub record Requested (w : List ℕ) (at : ℕ) (r : Request) (next : ℕ) : Type 0 where
+  pub joins : (n : ℕ) → requestsFrom n (ahead w at) ≡ joined r (requestsFrom (n + 3) (ahead w next))
+  pub passes : at + 20 < next
+  pub within : next ≤ length w
+
+abbrev pub GroupAs : List ℕ → ℕ → Group → Type 0
+GroupAs w at (Read r next) = Requested w at r next
+GroupAs w at (FaultyGroup k) = (k ≤ 2) × ((n : ℕ) → requestsFrom n (ahead w at) ≡ faulty (n + k))
+
+-- The requests from a place on are all without fault, or the first faulty line is told.
+pub record Faultless (judgement : Judged (List Request)) : Type 0 where
+  pub requests : List Request
+  pub are : judgement ≡ good requests
+
+abbrev pub RequestsAs : List ℕ → ℕ → Requests → Type 0
+RequestsAs w at (FaultyRequests n) = requestsFrom 4 (ahead w at) ≡ faulty n
+RequestsAs w at GoodRequests = Faultless (requestsFrom 4 (ahead w at))
+
+-- The first three lines' geometry, in its ranges and with a store that is not too long, or the first faulty line.
+pub record Headed (w : List ℕ) (g : Geometry) (at : ℕ) : Type 0 where
+  pub sheet : judgedLines (linesOf w) ≡ sheetFor g (requestsFrom 4 (ahead w at))
+  pub in-range : InRange g
+  pub short : storeWords g ≤ mostWords
+  pub within : at ≤ length w
+
+abbrev pub GeometryAs : List ℕ → Judgement → Type 0
+GeometryAs w (GoodSheet g at) = Headed w g at
+GeometryAs w (FaultySheet n) = judgedLines (linesOf w) ≡ faulty n
+
+-- A sheet without fault, with its requests from a place on; or its first faulty line.
+pub record Ready (w : List ℕ) (g : Geometry) (at : ℕ) : Type 0 where
+  pub requests : List Request
+  pub sheet : judged w ≡ good (record { geometry = g; requests = requests })
+  pub follow : requestsFrom 4 (ahead w at) ≡ good requests
+  pub in-range : InRange g
+  pub short : storeWords g ≤ mostWords
+  pub within : at ≤ length w
+  pub few : length w ≤ mostBytes
+
+abbrev pub Judges : List ℕ → Judgement → Type 0
+Judges w (GoodSheet g at) = Ready w g at
+Judges w (FaultySheet n) = judged w ≡ faulty n
