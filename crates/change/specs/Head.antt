@@ -194,7 +194,7 @@ module _ (e : Entry) (behind : ℕ) (own : Bool) (w : List ℕ) where
   unfolding editedBehind
   edited-live h = getD-set-same (toggledBehind e behind own w) liveWord live 0 (omega (arith, h, toggled-length e behind w own))
 
-  edited-directory : (i : ℕ) → i < headCountWord → i ≢ liveWord → getD (editedBehind e behind own w) i 0 ≡ getD w i 0
+  pub edited-directory : (i : ℕ) → i < headCountWord → i ≢ liveWord → getD (editedBehind e behind own w) i 0 ≡ getD w i 0
   unfolding editedBehind
   edited-directory i h n = getD-set-other (toggledBehind e behind own w) liveWord i live 0 n ∙ toggled-directory e behind w own i h
 

@@ -1,4 +1,15 @@
 // The sheet program, bytes in and bytes out: what a sheet prints.
+ghost use Prim.Native.Nat.{_+_, _*_, _≤_};
+ghost use mathlib.Core.Path.{_≡_};
+ghost use lib.ListN.{length, replicate};
+ghost use Rattle.geometry.specs.Places.{storeWords};
+ghost use Rattle.rules.specs.Merging.{entries};
+ghost use Rattle.rules.specs.Sound.{geometryOf, treeOf};
+ghost use Rattle.index.specs.Ask.{askOf};
+ghost use Rattle.reading.specs.Told.{Ready};
+ghost use Rattle.sheet_text.specs.Text.{line, askName, heldNumber, made, levelLines, lastLines, firstStore, firstWork, sheetOf, textRoom, printedIn};
+ghost use Rattle.sheet_text.specs.Answers.{numberOf, heldBy};
+ghost use Rattle.sheet_text.specs.Printed.{Printed, Within, Changing, Asking, Calling};
 use geometry::Geometry;
 use index::Asked;
 use index::Changed;
@@ -12,52 +23,84 @@ use reading::Request;
 use slot::Pair;
 
 // The bytes that the text of any sheet fits into.
-pub const TEXT_ROOM: usize = 16512;
+pub const TEXT_ROOM: usize = 16640;
 
-// Puts the text of a sheet at the start of the buffer, and gives its length; into a shorter buffer it puts nothing.
-pub fn run_sheet(input: &[u8], out: &mut [u8]) -> usize {
+// Puts the text of a sheet at the start of the buffer, and gives its length; a buffer of fewer bytes gets none of it.
+pub fn run_sheet(input: &[u8], out: &mut [u8]) -> usize
+    ensures text { λ r. ⌜ Printed (now (out .entry)) 0 (printedIn (length (now (out .entry))) (now (input .entry))) (now (out .exit)) r ⌝ }
+    ensures fits { λ r. ⌜ r ≤ length (now (out .entry)) ⌝ }
+{
     if out.len() < TEXT_ROOM {
         return 0;
     }
     match reading::judge(input) {
-        Judgement::Faulty(line) => print_line(out, 0, b"line=", line),
-        Judgement::Good(geometry, at) => run_requests(input, at, geometry, out),
+        Judgement::Faulty(line) => print_line(out, 0, b"line=", line as u64),
+        Judgement::Good(geometry, at) => run_judged(input, at, geometry, out),
     }
 }
 
-// The text of a sheet without faults, whose requests begin at a place.
-fn run_requests(input: &[u8], at: usize, g: Geometry, out: &mut [u8]) -> usize {
+// The text of a sheet without fault, whose requests begin at a place.
+fn run_judged(input: &[u8], at: usize, g: Geometry, out: &mut [u8]) -> usize
+    requires { ⌜ Ready (now input) g at ⌝ }
+    requires { ⌜ textRoom ≤ length (now out) ⌝ }
+    ensures { λ r. ⌜ Within (now (out .entry)) (sheetOf (now (input .entry))) (now (out .exit)) r ⌝ }
+{
     let plan = geometry::plan_for(g);
     let store_words = plan.store_words as usize;
     let work_words = plan.work_words as usize;
     let mut store = [0u32; 4096];
     let mut work = [0u32; 4096];
-    index::format(&mut store[0..store_words], g);
-    let tally = play(
+    run_on(
         input,
         at,
+        g,
         &mut store[0..store_words],
         &mut work[0..work_words],
         out,
-    );
-    print_end(out, g, store[geometry::LIVE], tally)
+    )
 }
 
-// What the calls made so far come to: how much text there is, the pages written, and the index entries in each level.
+// So it is on words of a store and of a work area that hold zeros.
+fn run_on(
+    input: &[u8],
+    at: usize,
+    g: Geometry,
+    store: &mut [u32],
+    work: &mut [u32],
+    out: &mut [u8],
+) -> usize
+    requires { ⌜ Ready (now input) g at ⌝ }
+    requires { ⌜ now store ≡ replicate (storeWords g) 0 ⌝ }
+    requires { ⌜ now work ≡ firstWork g ⌝ }
+    requires { ⌜ textRoom ≤ length (now out) ⌝ }
+    ensures { λ r. ⌜ Within (now (out .entry)) (sheetOf (now (input .entry))) (now (out .exit)) r ⌝ }
+{
+    index::format(store, g);
+    make_calls(input, at, g, store, work, out)
+}
+
+// What the calls made so far come to: how long the text is, the pages written, and the index entries in each level.
 pub struct Tally {
     pub length: usize,
     pub pages: u64,
     pub entries: [u32; 4],
 }
 
-// Makes the calls that the requests from a place on ask for, each with its line of text.
-fn play(
+// Makes the calls that the requests ask for on a formatted store, each with its line, and then prints the last lines.
+fn make_calls(
     input: &[u8],
     from: usize,
+    g: Geometry,
     store: &mut [u32],
     work: &mut [u32],
     out: &mut [u8],
-) -> Tally {
+) -> usize
+    requires { ⌜ Ready (now input) g from ⌝ }
+    requires { ⌜ now store ≡ firstStore g ⌝ }
+    requires { ⌜ now work ≡ firstWork g ⌝ }
+    requires { ⌜ textRoom ≤ length (now out) ⌝ }
+    ensures { λ r. ⌜ Within (now (out .entry)) (sheetOf (now (input .entry))) (now (out .exit)) r ⌝ }
+{
     let mut at = from;
     let mut tally = Tally {
         length: 0,
@@ -66,12 +109,12 @@ fn play(
     };
     while at < input.len() {
         let Group::Read(request, next) = reading::read_group(input, at) else {
-            return tally;
+            return 0;
         };
         tally = make_call(store, work, request, out, tally);
         at = next;
     }
-    tally
+    print_end(out, g, store[geometry::LIVE], tally)
 }
 
 // Makes the call that a request asks for.
@@ -81,7 +124,12 @@ fn make_call(
     request: Request,
     out: &mut [u8],
     tally: Tally,
-) -> Tally {
+) -> Tally
+    requires { ⌜ tally .entries ≡ entries (treeOf (geometryOf (now store)) (now store)) ⌝ }
+    requires { ⌜ tally .length + 16 ≤ length (now out) ⌝ }
+    requires { ⌜ tally .pages ≤ 4294967296 * 16384 ⌝ }
+    ensures { λ r. ⌜ Calling (made request (now (store .entry)) (now (work .entry))) (now (store .entry)) (now (out .entry)) tally (now (store .exit)) (now (work .exit)) (now (out .exit)) r ⌝ }
+{
     let operation = request.operation;
     let pair = request.pair;
     match operation {
@@ -92,25 +140,34 @@ fn make_call(
 }
 
 // The line of a put or drop: its reply number. An accepted one counts.
-fn changed_line(out: &mut [u8], name: &[u8], changed: Changed, tally: Tally) -> Tally {
+fn changed_line(out: &mut [u8], name: &[u8], changed: Changed, tally: Tally) -> Tally
+    requires { ⌜ length (now name) ≤ 5 ⌝ }
+    requires { ⌜ tally .length + 16 ≤ length (now out) ⌝ }
+    requires { ⌜ tally .pages ≤ 4294967296 * 16384 ⌝ }
+    ensures { λ r. ⌜ Changing (now (name .entry)) changed (now (out .entry)) tally (now (out .exit)) r ⌝ }
+{
     let answer = changed.answer;
     let length = print_line(out, tally.length, name, number_of(answer));
     let Edited::Done(_, _, pages) = answer else {
+        let entries = tally.entries;
         return Tally {
             length,
             pages: tally.pages,
-            entries: tally.entries,
+            entries,
         };
     };
+    let entries = changed.entries;
     Tally {
         length,
         pages: tally.pages + pages as u64,
-        entries: changed.entries,
+        entries,
     }
 }
 
 // The number of a reply.
-fn number_of(answer: Edited) -> u32 {
+fn number_of(answer: Edited) -> u64
+    ensures { λ r. ⌜ (r ≡ numberOf answer) × (r ≤ 6) ⌝ }
+{
     match answer {
         Edited::Done(_, _, _) => 0,
         Edited::Range => 1,
@@ -122,52 +179,68 @@ fn number_of(answer: Edited) -> u32 {
     }
 }
 
-// The line of an ask: 1 held, 0 not.
-fn ask_line(out: &mut [u8], store: &[u32], pair: Pair, tally: Tally) -> Tally {
-    let length = print_line(out, tally.length, b"ask=", held_number(index::ask(store, pair)));
+// The line of an ask.
+fn ask_line(out: &mut [u8], store: &[u32], pair: Pair, tally: Tally) -> Tally
+    requires { ⌜ tally .length + 16 ≤ length (now out) ⌝ }
+    ensures { λ r. ⌜ Asking (line askName (heldNumber (askOf (now (store .entry)) pair))) (now (out .entry)) tally (now (out .exit)) r ⌝ }
+{
+    let held = held_number(index::ask(store, pair));
+    let length = print_line(out, tally.length, b"ask=", held);
+    let entries = tally.entries;
     Tally {
         length,
         pages: tally.pages,
-        entries: tally.entries,
+        entries,
     }
 }
 
-fn held_number(answer: Asked) -> u32 {
-    match answer {
-        Asked::Answer(held, _) => {
-            if held {
-                1
-            } else {
-                0
-            }
-        }
-        _ => 0,
-    }
+// 1 held, 0 not.
+fn held_number(answer: Asked) -> u64
+    ensures { λ r. ⌜ (r ≡ heldBy answer) × (r ≤ 1) ⌝ }
+{
+    let Asked::Answer(held, _) = answer else {
+        return 0;
+    };
+    if held { 1 } else { 0 }
 }
 
-// The lines behind those of the requests: live pairs, index entries in the head and in each level, pages written.
-fn print_end(out: &mut [u8], g: Geometry, live: u32, tally: Tally) -> usize {
+// The lines behind those of the calls.
+fn print_end(out: &mut [u8], g: Geometry, live: u32, tally: Tally) -> usize
+    requires { ⌜ (2 ≤ g .levels) × (g .levels ≤ 4) ⌝ }
+    requires { ⌜ tally .length + 192 ≤ length (now out) ⌝ }
+    ensures { λ r. ⌜ Printed (now (out .entry)) (tally .length) (lastLines (g .levels) live (tally .entries) (tally .pages)) (now (out .exit)) r ⌝ }
+    ensures { λ r. ⌜ r ≤ length (now (out .entry)) ⌝ }
+{
     let entries = tally.entries;
-    let mut at = print_line(out, tally.length, b"live=", live);
-    at = print_line(out, at, b"head=", entries[0]);
-    at = print_line(out, at, b"level1=", entries[1]);
-    if 2 < g.levels {
-        at = print_line(out, at, b"level2=", entries[2]);
-    }
-    if 3 < g.levels {
-        at = print_line(out, at, b"level3=", entries[3]);
-    }
-    print_pages(out, at, tally.pages)
+    let first = print_line(out, tally.length, b"live=", live as u64);
+    let second = print_levels(out, first, g.levels, entries);
+    print_line(out, second, b"pages=", tally.pages)
 }
 
-fn print_pages(out: &mut [u8], at: usize, pages: u64) -> usize {
-    let named = print_bytes(out, at, b"pages=");
-    let end = printing::print_long(out, named, pages);
-    print_bytes(out, end, b"\n")
+// The index entries in the head and in each level that exists.
+fn print_levels(out: &mut [u8], at: usize, levels: u32, counts: [u32; 4]) -> usize
+    requires { ⌜ (2 ≤ levels) × (levels ≤ 4) ⌝ }
+    requires { ⌜ at + 112 ≤ length (now out) ⌝ }
+    ensures { λ r. ⌜ Printed (now (out .entry)) at (levelLines levels counts) (now (out .exit)) r ⌝ }
+    ensures { λ r. ⌜ r ≤ at + 112 ⌝ }
+{
+    let head = print_line(out, at, b"head=", counts[0] as u64);
+    let first = print_line(out, head, b"level1=", counts[1] as u64);
+    if levels == 2 {
+        return first;
+    }
+    let second = print_line(out, first, b"level2=", counts[2] as u64);
+    if levels == 3 {
+        return second;
+    }
+    print_line(out, second, b"level3=", counts[3] as u64)
 }
 
 // A line: a name, a number, byte 10.
-fn print_line(out: &mut [u8], at: usize, name: &[u8], n: u32) -> usize {
+fn print_line(out: &mut [u8], at: usize, name: &[u8], n: u64) -> usize
+    requires { ⌜ at + length (line (now name) n) ≤ length (now out) ⌝ }
+    ensures { λ r. ⌜ Printed (now (out .entry)) at (line (now (name .entry)) n) (now (out .exit)) r ⌝ }
+{
     let named = print_bytes(out, at, name);
     let end = print_number(out, named, n);
     print_bytes(out, end, b"\n")

@@ -1,0 +1,120 @@
+use native.Mathlib.Omega.{arith}
+use borrow.Author.Needs.{needs}
+use Rattle.sheet_text.proofs.make_call.Statement.{statement}
+use Rattle.sheet_text.proofs.make_call.Tie as tie
+use Rattle.sheet_text.proofs.make_call.Reads as reads
+use Rattle.sheet_text.proofs.make_call.Lts as lts
+use Rattle.index.proofs.drop.Reads as drop-reads
+use Rattle.index.proofs.put.Reads as put-reads
+use Rattle.sheet_text.proofs.ask_line.Reads as ask-line-reads
+use Rattle.sheet_text.proofs.changed_line.Reads as changed-line-reads
+
+-- src/lib.rt:136:40
+enum-told : tie.Need-enum-told
+enum-told c = ?
+
+-- src/lib.rt:136:45
+slice-aggregate-changed-line : tie.Need-slice-aggregate-changed-line
+slice-aggregate-changed-line c = ?
+
+-- src/lib.rt:136:54
+put-requires : tie.Need-put-requires
+put-requires c κs = ?
+
+-- src/lib.rt:136:27
+changed-line-requires : tie.Need-changed-line-requires
+changed-line-requires c κs = ?
+
+-- src/lib.rt:137:41
+enum-told-2 : tie.Need-enum-told-2
+enum-told-2 c = ?
+
+-- src/lib.rt:137:46
+slice-aggregate-changed-line-2 : tie.Need-slice-aggregate-changed-line-2
+slice-aggregate-changed-line-2 c = ?
+
+-- src/lib.rt:137:56
+drop-requires : tie.Need-drop-requires
+drop-requires c κs = ?
+
+-- src/lib.rt:137:28
+changed-line-requires-2 : tie.Need-changed-line-requires-2
+changed-line-requires-2 c κs = ?
+
+-- src/lib.rt:138:36
+enum-told-3 : tie.Need-enum-told-3
+enum-told-3 c = ?
+
+-- src/lib.rt:138:27
+ask-line-requires : tie.Need-ask-line-requires
+ask-line-requires c κs = ?
+
+-- src/lib.rt:121:1
+same-length : tie.Need-same-length
+same-length c = ?
+
+-- src/lib.rt:121:1
+same-length-2 : tie.Need-same-length-2
+same-length-2 c = ?
+
+-- src/lib.rt:121:1
+same-length-3 : tie.Need-same-length-3
+same-length-3 c = ?
+
+-- src/lib.rt:121:1
+returns : tie.Need-returns
+returns c = ?
+
+-- src/lib.rt:121:1
+same-length-4 : tie.Need-same-length-4
+same-length-4 c = ?
+
+-- src/lib.rt:121:1
+same-length-5 : tie.Need-same-length-5
+same-length-5 c = ?
+
+-- src/lib.rt:121:1
+same-length-6 : tie.Need-same-length-6
+same-length-6 c = ?
+
+-- src/lib.rt:121:1
+returns-2 : tie.Need-returns-2
+returns-2 c = ?
+
+-- src/lib.rt:121:1
+same-length-7 : tie.Need-same-length-7
+same-length-7 c = ?
+
+-- src/lib.rt:121:1
+same-length-8 : tie.Need-same-length-8
+same-length-8 c = ?
+
+-- src/lib.rt:121:1
+returns-3 : tie.Need-returns-3
+returns-3 c = ?
+
+pub make-call-spec : {M : Type 1} → statement M
+make-call-spec =
+    tie.close
+    (tie.spec
+    enum-told
+    slice-aggregate-changed-line
+    put-requires
+    changed-line-requires
+    enum-told-2
+    slice-aggregate-changed-line-2
+    drop-requires
+    changed-line-requires-2
+    enum-told-3
+    ask-line-requires
+    same-length
+    same-length-2
+    same-length-3
+    returns
+    same-length-4
+    same-length-5
+    same-length-6
+    returns-2
+    same-length-7
+    same-length-8
+    returns-3)

@@ -1,0 +1,107 @@
+use borrow.Author.Needs.{needs}
+use native.Mathlib.Omega.{arith}
+use Rattle.sheet_text.proofs.make_calls.Statement.{statement}
+use Rattle.sheet_text.proofs.make_calls.Tie as tie
+use Rattle.sheet_text.proofs.make_calls.Reads as reads
+use Rattle.sheet_text.proofs.make_calls.Lts as lts
+use Rattle.reading.proofs.read_group.Reads as read-group-reads
+use Rattle.sheet_text.proofs.make_call.Reads as make-call-reads
+use Rattle.sheet_text.proofs.print_end.Reads as print-end-reads
+
+abbrev Inv-loop : tie.InvT-loop
+Inv-loop input from g store₀ work₀ out₀ at₀ tally₀ store work out at tally = ?
+
+abbrev μ-loop : tie.MeasureT-loop
+μ-loop input from g store₀ work₀ out₀ at₀ tally₀ store work out at tally = ?
+
+-- src/lib.rt:110:5
+loop-holds : tie.Need-loop-holds Inv-loop μ-loop
+loop-holds c = ?
+
+-- src/lib.rt:111:42
+read-group-requires : tie.Need-read-group-requires Inv-loop μ-loop
+read-group-requires c κs = ?
+
+-- src/lib.rt:111:25
+enum-known-request : tie.Need-enum-known-request Inv-loop μ-loop
+enum-known-request c = ?
+
+-- src/lib.rt:112:13
+enum-told : tie.Need-enum-told Inv-loop μ-loop
+enum-told c = ?
+
+-- src/lib.rt:112:13
+same-length : tie.Need-same-length Inv-loop μ-loop
+same-length c = ?
+
+-- src/lib.rt:112:13
+same-length-2 : tie.Need-same-length-2 Inv-loop μ-loop
+same-length-2 c = ?
+
+-- src/lib.rt:112:13
+same-length-3 : tie.Need-same-length-3 Inv-loop μ-loop
+same-length-3 c = ?
+
+-- src/lib.rt:112:13
+returns : tie.Need-returns Inv-loop μ-loop
+returns c = ?
+
+-- src/lib.rt:114:9
+make-call-requires : tie.Need-make-call-requires Inv-loop μ-loop
+make-call-requires c κs = ?
+
+-- src/lib.rt:110:5
+loop-less : tie.Need-loop-less Inv-loop μ-loop
+loop-less c = ?
+
+-- src/lib.rt:110:5
+loop-again : tie.Need-loop-again Inv-loop μ-loop
+loop-again c = ?
+
+-- src/lib.rt:117:23
+slice-read-print-end : tie.Need-slice-read-print-end Inv-loop μ-loop
+slice-read-print-end c = ?
+
+-- src/lib.rt:117:5
+print-end-requires : tie.Need-print-end-requires Inv-loop μ-loop
+print-end-requires c κs = ?
+
+-- src/lib.rt:90:1
+same-length-4 : tie.Need-same-length-4 Inv-loop μ-loop
+same-length-4 c = ?
+
+-- src/lib.rt:90:1
+same-length-5 : tie.Need-same-length-5 Inv-loop μ-loop
+same-length-5 c = ?
+
+-- src/lib.rt:90:1
+same-length-6 : tie.Need-same-length-6 Inv-loop μ-loop
+same-length-6 c = ?
+
+-- src/lib.rt:90:1
+returns-2 : tie.Need-returns-2 Inv-loop μ-loop
+returns-2 c = ?
+
+pub make-calls-spec : {M : Type 1} → statement M
+make-calls-spec =
+    tie.close
+    (tie.spec
+    Inv-loop
+    μ-loop
+    loop-holds
+    read-group-requires
+    enum-known-request
+    enum-told
+    same-length
+    same-length-2
+    same-length-3
+    returns
+    make-call-requires
+    loop-less
+    loop-again
+    slice-read-print-end
+    print-end-requires
+    same-length-4
+    same-length-5
+    same-length-6
+    returns-2)

@@ -1,0 +1,180 @@
+-- How the text of a sheet comes into the buffer: text put behind text, a call's line, and all calls one after another. Assumes nothing.
+use Prim.Native.Nat.{ℕ, zero, suc, _+_, _*_, _^_, _≤_, _<_}
+use native.Mathlib.Nat.{zero-add, add-zero}
+use native.Mathlib.Omega.{arith}
+use mathlib.Core.Path.{_≡_, refl, sym, ap, _∙_}
+use mathlib.Core.Bool.{Bool, true, false}
+use mathlib.Core.List.{List, [], _∷_, _++_, append-nil, append-assoc}
+use lib.ListN.{length, getD, drop, replicate, take, length-append, length-replicate, getD-replicate, drop-of-length-le}
+use lib.Seq.{sets}
+use lib.Dec.{leb, eqb}
+use borrow.Author.Tests.{le-leb, lt-leb, eq-eqb}
+use Rattle.laws.specs.Sets.{sets-behind}
+use Rattle.laws.specs.Lists.{concat, span}
+use Rattle.geometry.specs.declared.Geometry.{Geometry}
+use Rattle.geometry.specs.Geometry.{InRange, inRange}
+use Rattle.geometry.specs.Places.{liveWord, storeWords, workWords}
+use Rattle.slot.specs.declared.Pair.{Pair}
+use Rattle.rules.specs.Tree.{Level, Tree, level}
+use Rattle.rules.specs.Merging.{entries, formatted}
+use Rattle.rules.specs.Store.{writing, emptyStore}
+use Rattle.rules.specs.Sound.{geometryOf, treeOf}
+use Rattle.good.specs.Format.{formatted-good}
+use Rattle.promises.specs.Written.{good-tree}
+use Rattle.index.specs.declared.Changed.{Changed}
+use Rattle.index.specs.Edit.{Kept, editReply, editOf, putOf, dropOf}
+use Rattle.index.specs.Format.{formatOf, format-done}
+use Rattle.printing.specs.Decimal.{decimal, length-digit, digits-below}
+use Rattle.reading.specs.declared.Request.{Request}
+use Rattle.reading.specs.Lines.{linesOf}
+use Rattle.reading.specs.Sheet.{Judged, faulty, good, Sheet, joined, requestsFrom, judged}
+use Rattle.reading.specs.Told.{ahead, Requested, Ready}
+use Rattle.sheet_text.specs.declared.Tally.{Tally}
+use Rattle.sheet_text.specs.Text.{line, Made, changing, made, liveName, pagesName, headName, firstName, secondName, thirdName, levelLines, lastLines, ending, textFrom, firstStore, firstWork, judgedText, sheetOf, textRoom, printedIn}
+use Rattle.sheet_text.specs.Counts.{Left, edit-leaves, written-geometry}
+use Rattle.sheet_text.specs.Answers.{numberOf, pagesOf, countsAfter, Tells, tells, counts-stay}
+
+-- Text that was put into a buffer from a place on: what stands there then, and the place behind it.
+pub record Printed (w : List ℕ) (at : ℕ) (text v : List ℕ) (end : ℕ) : Type 0 where
+  pub ends : end ≡ at + length text
+  pub stands : v ≡ sets w at text
+
+-- At the start of a buffer that it fits into.
+pub record Within (w text v : List ℕ) (end : ℕ) : Type 0 where
+  pub printed : Printed w 0 text v end
+  pub fits : end ≤ length w
+
+module _ (w : List ℕ) (at : ℕ) where
+  pub printed-none : Printed w at [] w at
+  printed-none = record { ends = omega arith; stands = refl }
+
+  -- Text behind text is one text.
+  pub printed-then : (xs ys : List ℕ) {v u : List ℕ} {middle end : ℕ} → Printed w at xs v middle → Printed v middle ys u end → Printed w at (xs ++ ys) u end
+  printed-then xs ys p q = record {
+    ends = omega (arith, p .ends, q .ends, length-append xs ys);
+    stands = q .stands ∙ rw (p .stands, p .ends) (sets-behind w at xs ys);
+  }
+
+-- A line has its name's bytes, one for byte 10, and the digits.
+pub line-length : (name : List ℕ) (n : ℕ) → length (line name n) ≡ length name + (length (decimal n) + 1)
+unfolding line
+line-length name n = length-append name (decimal n ++ 10 ∷ []) ∙ rw (length-append (decimal n) (10 ∷ []))
+
+pub line-digit : (name : List ℕ) (n : ℕ) → n < 10 → length (line name n) ≡ length name + 2
+line-digit name n h = line-length name n ∙ rw (length-digit n h)
+
+pub line-short : (name : List ℕ) (n : ℕ) → n < 18446744073709551616 → length (line name n) ≤ length name + 21
+line-short name n h = omega (arith, line-length name n, digits-below 19 n (omega arith))
+
+pub line-printed : (w : List ℕ) (at : ℕ) (name : List ℕ) (n : ℕ) {v u x : List ℕ} {named end last : ℕ} →
+    (named ≡ at + length name) × (v ≡ sets w at name) → (end ≡ named + length (decimal n)) × (u ≡ sets v named (decimal n)) →
+    (last ≡ end + 1) × (x ≡ sets u end (10 ∷ [])) → Printed w at (line name n) x last
+unfolding line
+line-printed w at name n {v} {u} {x} {named} {end} {last} p q r =
+    printed-then w at name (decimal n ++ 10 ∷ []) (record { ends = p .0; stands = p .1 })
+    (printed-then v named (decimal n) (10 ∷ []) (record { ends = q .0; stands = q .1 }) (record { ends = r .0; stands = r .1 }))
+
+-- The lines of the levels that exist.
+module _ (counts : List ℕ) where
+  abbrev lineAt : List ℕ → ℕ → List ℕ
+  lineAt name i = line name (getD counts i 0)
+
+  pub two-levels : (levels : ℕ) → levels ≡ 2 → levelLines levels counts ≡ lineAt headName 0 ++ lineAt firstName 1
+  unfolding levelLines concat
+  two-levels levels e = rw (e, append-nil (lineAt firstName 1))
+
+  pub three-levels : (levels : ℕ) → levels ≡ 3 → levelLines levels counts ≡ lineAt headName 0 ++ (lineAt firstName 1 ++ lineAt secondName 2)
+  unfolding levelLines concat
+  three-levels levels e = rw (e, append-nil (lineAt secondName 2))
+
+  pub four-levels : (levels : ℕ) → levels ≡ 4 → levelLines levels counts ≡ lineAt headName 0 ++ (lineAt firstName 1 ++ (lineAt secondName 2 ++ lineAt thirdName 3))
+  unfolding levelLines concat
+  four-levels levels e = rw (e, append-nil (lineAt thirdName 3))
+
+-- What a put or drop adds: its line, its pages and, where it was accepted, its counts.
+pub record Changing (name : List ℕ) (changed : Changed) (out : List ℕ) (tally : Tally) (out′ : List ℕ) (r : Tally) : Type 0 where
+  pub printed : Printed out (tally .length) (line name (numberOf (changed .answer))) out′ (r .length)
+  pub short : r .length ≤ tally .length + 16
+  pub pages : r .pages ≡ tally .pages + pagesOf (changed .answer)
+  pub few : r .pages ≤ tally .pages + 4294967295
+  pub counts : r .entries ≡ countsAfter (changed .answer) (changed .entries) (tally .entries)
+
+-- What an ask adds: its line.
+pub record Asking (text out : List ℕ) (tally : Tally) (out′ : List ℕ) (r : Tally) : Type 0 where
+  pub printed : Printed out (tally .length) text out′ (r .length)
+  pub short : r .length ≤ tally .length + 16
+  pub pages : r .pages ≡ tally .pages
+  pub counts : r .entries ≡ tally .entries
+
+-- What a call adds, and what it leaves.
+pub record Calling (m : Made) (store out : List ℕ) (tally : Tally) (store′ work′ out′ : List ℕ) (r : Tally) : Type 0 where
+  pub printed : Printed out (tally .length) (m .text) out′ (r .length)
+  pub short : r .length ≤ tally .length + 16
+  pub pages : r .pages ≡ tally .pages + m .pages
+  pub few : r .pages ≤ tally .pages + 4294967295
+  pub store-left : store′ ≡ m .store
+  pub work-left : work′ ≡ m .work
+  pub counts : r .entries ≡ entries (treeOf (geometryOf store) store′)
+  pub geometry : geometryOf store′ ≡ geometryOf store
+
+module _ (store work out : List ℕ) (tally : Tally) (counted : tally .entries ≡ entries (treeOf (geometryOf store) store)) (out′ : List ℕ) (r : Tally) where
+  pub change-called : (name : List ℕ) (normal : Bool) (p : Pair) (changed : Changed) (store′ work′ : List ℕ) →
+      editReply (changed .answer) (changed .entries) store′ work′ ≡ editOf store work normal p → Changing name changed out tally out′ r →
+      Calling (changing name (editOf store work normal p)) store out tally store′ work′ out′ r
+  unfolding changing
+  change-called name normal p changed store′ work′ e c =
+      let k : Kept = editOf store work normal p in
+      let t = tells (changed .answer) (changed .entries) store′ work′ k e in
+      let stays = counts-stay store (changed .entries) (tally .entries) store′ work′ k counted (changed .answer) e (edit-leaves store work normal p) in
+      record {
+        printed = rw (t .number) (c .printed);
+        short = c .short;
+        pages = c .pages ∙ rw (t .pages);
+        few = c .few;
+        store-left = sym (t .store-left);
+        work-left = sym (t .work-left);
+        counts = c .counts ∙ stays .0;
+        geometry = stays .1;
+      }
+
+  pub ask-called : (text : List ℕ) → Asking text out tally out′ r → Calling (record { text = text; store = store; work = work; pages = 0 }) store out tally store work out′ r
+  ask-called text c = record {
+    printed = c .printed;
+    short = c .short;
+    pages = c .pages ∙ sym (add-zero (tally .pages));
+    few = omega (arith, c .pages);
+    store-left = refl;
+    work-left = refl;
+    counts = c .counts ∙ counted;
+    geometry = refl;
+  }
+
+-- The lines of the levels, printed one after another.
+module _ (w : List ℕ) (at : ℕ) (counts : List ℕ) (levels : ℕ) where
+  pub two-printed : {v u : List ℕ} {a b : ℕ} → levels ≡ 2 → Printed w at (lineAt counts headName 0) v a → Printed v a (lineAt counts firstName 1) u b →
+      Printed w at (levelLines levels counts) u b
+  two-printed {u = u} {b = b} e p q =
+      rw (two-levels counts levels e) (printed-then w at (lineAt counts headName 0) (lineAt counts firstName 1) p q)
+
+  pub three-printed : {v u x : List ℕ} {a b c : ℕ} → levels ≡ 3 → Printed w at (lineAt counts headName 0) v a → Printed v a (lineAt counts firstName 1) u b →
+      Printed u b (lineAt counts secondName 2) x c → Printed w at (levelLines levels counts) x c
+  three-printed {v} {a = a} e p q r =
+      rw (three-levels counts levels e)
+      (printed-then w at (lineAt counts headName 0) (lineAt counts firstName 1 ++ lineAt counts secondName 2) p
+      (printed-then v a (lineAt counts firstName 1) (lineAt counts secondName 2) q r))
+
+  pub four-printed : {v u x y : List ℕ} {a b c d : ℕ} → levels ≡ 4 → Printed w at (lineAt counts headName 0) v a → Printed v a (lineAt counts firstName 1) u b →
+      Printed u b (lineAt counts secondName 2) x c → Printed x c (lineAt counts thirdName 3) y d → Printed w at (levelLines levels counts) y d
+  four-printed {v} {u} {a = a} {b = b} e p q r s =
+      rw (four-levels counts levels e)
+      (printed-then w at (lineAt counts headName 0) (lineAt counts firstName 1 ++ (lineAt counts secondName 2 ++ lineAt counts thirdName 3)) p
+      (printed-then v a (lineAt counts firstName 1) (lineAt counts secondName 2 ++ lineAt counts thirdName 3) q
+      (printed-then u b (lineAt counts secondName 2) (lineAt counts thirdName 3) r s)))
+
+-- Live pairs, the levels, the pages written.
+pub last-printed : (w : List ℕ) (at levels live : ℕ) (counts : List ℕ) (pages : ℕ) {v u x : List ℕ} {a b c : ℕ} → Printed w at (line liveName live) v a →
+    Printed v a (levelLines levels counts) u b → Printed u b (line pagesName pages) x c → Printed w at (lastLines levels live counts pages) x c
+unfolding lastLines
+last-printed w at levels live counts pages {v} {a = a} p q r =
+    printed-then w at (line liveName live) (levelLines levels counts ++ line pagesName pages) p
+    (printed-then v a (levelLines levels counts) (line pagesName pages) q r)
