@@ -8,7 +8,7 @@ use mathlib.Core.List.{List, [], _∷_, _++_, append-nil, append-assoc}
 use lib.ListN.{length, getD, drop, replicate, take, length-append, length-replicate, getD-replicate, drop-of-length-le}
 use lib.Seq.{sets}
 use lib.Dec.{leb, eqb}
-use borrow.Author.Tests.{le-leb, lt-leb, eq-eqb}
+use borrow.Author.Tests.{ne-eqb}
 use Rattle.laws.specs.Sets.{sets-behind}
 use Rattle.laws.specs.Lists.{concat, span}
 use Rattle.geometry.specs.declared.Geometry.{Geometry}
@@ -22,17 +22,21 @@ use Rattle.rules.specs.Sound.{geometryOf, treeOf}
 use Rattle.good.specs.Format.{formatted-good}
 use Rattle.promises.specs.Written.{good-tree}
 use Rattle.index.specs.declared.Changed.{Changed}
+use Rattle.index.specs.declared.Asked.{Asked}
+use Rattle.index.specs.Ask.{askReply, askOf}
 use Rattle.index.specs.Edit.{Kept, editReply, editOf, putOf, dropOf}
 use Rattle.index.specs.Format.{formatOf, format-done}
 use Rattle.printing.specs.Decimal.{decimal, length-digit, digits-below}
+use Rattle.reading.specs.declared.Operation.{Operation}
+use Rattle.reading.specs.declared.Operation.the-variants.{Put, Drop, Ask}
 use Rattle.reading.specs.declared.Request.{Request}
 use Rattle.reading.specs.Lines.{linesOf}
 use Rattle.reading.specs.Sheet.{Judged, faulty, good, Sheet, joined, requestsFrom, judged}
 use Rattle.reading.specs.Told.{ahead, Requested, Ready}
 use Rattle.sheet_text.specs.declared.Tally.{Tally}
-use Rattle.sheet_text.specs.Text.{line, Made, changing, made, liveName, pagesName, headName, firstName, secondName, thirdName, levelLines, lastLines, ending, textFrom, firstStore, firstWork, judgedText, sheetOf, textRoom, printedIn}
+use Rattle.sheet_text.specs.Text.{line, Made, changing, heldNumber, called, made, putName, dropName, askName, liveName, pagesName, headName, firstName, secondName, thirdName, levelLines, lastLines, ending, textFrom, firstStore, firstWork, judgedText, sheetOf, textRoom, printedIn}
 use Rattle.sheet_text.specs.Counts.{Left, edit-leaves, written-geometry}
-use Rattle.sheet_text.specs.Answers.{numberOf, pagesOf, countsAfter, Tells, tells, counts-stay}
+use Rattle.sheet_text.specs.Answers.{numberOf, pagesOf, countsAfter, heldBy, ask-told, Tells, tells, counts-stay}
 
 -- Text that was put into a buffer from a place on: what stands there then, and the place behind it.
 pub record Printed (w : List ℕ) (at : ℕ) (text v : List ℕ) (end : ℕ) : Type 0 where
@@ -66,6 +70,10 @@ line-digit name n h = line-length name n ∙ rw (length-digit n h)
 pub line-short : (name : List ℕ) (n : ℕ) → n < 18446744073709551616 → length (line name n) ≤ length name + 21
 line-short name n h = omega (arith, line-length name n, digits-below 19 n (omega arith))
 
+pub line-ends : {w : List ℕ} {at : ℕ} (name : List ℕ) (n : ℕ) {v : List ℕ} {end : ℕ} → n < 18446744073709551616 → Printed w at (line name n) v end →
+    end ≤ at + (length name + 21)
+line-ends name n h p = omega (arith, p .ends, line-short name n h)
+
 pub line-printed : (w : List ℕ) (at : ℕ) (name : List ℕ) (n : ℕ) {v u x : List ℕ} {named end last : ℕ} →
     (named ≡ at + length name) × (v ≡ sets w at name) → (end ≡ named + length (decimal n)) × (u ≡ sets v named (decimal n)) →
     (last ≡ end + 1) × (x ≡ sets u end (10 ∷ [])) → Printed w at (line name n) x last
@@ -74,22 +82,27 @@ line-printed w at name n {v} {u} {x} {named} {end} {last} p q r =
     printed-then w at name (decimal n ++ 10 ∷ []) (record { ends = p .0; stands = p .1 })
     (printed-then v named (decimal n) (10 ∷ []) (record { ends = q .0; stands = q .1 }) (record { ends = r .0; stands = r .1 }))
 
--- The lines of the levels that exist.
+-- The lines of the levels that exist, from the head down and from level 2 on.
+unfoldable pub lowerLines : ℕ → ℕ → ℕ → List ℕ
+lowerLines levels second third = elim (eqb levels 3) [ true ↦ line secondName second | false ↦ line secondName second ++ line thirdName third ]
+
 module _ (counts : List ℕ) where
   abbrev lineAt : List ℕ → ℕ → List ℕ
   lineAt name i = line name (getD counts i 0)
 
-  pub two-levels : (levels : ℕ) → levels ≡ 2 → levelLines levels counts ≡ lineAt headName 0 ++ lineAt firstName 1
+  two-levels : (levels : ℕ) → levels ≡ 2 → levelLines levels counts ≡ lineAt headName 0 ++ lineAt firstName 1
   unfolding levelLines concat
   two-levels levels e = rw (e, append-nil (lineAt firstName 1))
 
-  pub three-levels : (levels : ℕ) → levels ≡ 3 → levelLines levels counts ≡ lineAt headName 0 ++ (lineAt firstName 1 ++ lineAt secondName 2)
-  unfolding levelLines concat
-  three-levels levels e = rw (e, append-nil (lineAt secondName 2))
-
-  pub four-levels : (levels : ℕ) → levels ≡ 4 → levelLines levels counts ≡ lineAt headName 0 ++ (lineAt firstName 1 ++ (lineAt secondName 2 ++ lineAt thirdName 3))
-  unfolding levelLines concat
-  four-levels levels e = rw (e, append-nil (lineAt thirdName 3))
+  more-levels : (levels : ℕ) → 3 ≤ levels → levels ≤ 4 →
+      levelLines levels counts ≡ lineAt headName 0 ++ (lineAt firstName 1 ++ lowerLines levels (getD counts 2 0) (getD counts 3 0))
+  unfolding levelLines concat lowerLines
+  more-levels zero h k = absurd (omega arith)
+  more-levels (suc zero) h k = absurd (omega arith)
+  more-levels (suc (suc zero)) h k = absurd (omega arith)
+  more-levels (suc (suc (suc zero))) h k = rw (append-nil (lineAt secondName 2))
+  more-levels (suc (suc (suc (suc zero)))) h k = rw (append-nil (lineAt thirdName 3))
+  more-levels (suc (suc (suc (suc (suc n))))) h k = absurd (omega arith)
 
 -- What a put or drop adds: its line, its pages and, where it was accepted, its counts.
 pub record Changing (name : List ℕ) (changed : Changed) (out : List ℕ) (tally : Tally) (out′ : List ℕ) (r : Tally) : Type 0 where
@@ -105,6 +118,30 @@ pub record Asking (text out : List ℕ) (tally : Tally) (out′ : List ℕ) (r :
   pub short : r .length ≤ tally .length + 16
   pub pages : r .pages ≡ tally .pages
   pub counts : r .entries ≡ tally .entries
+
+-- So it is with the lines that the code prints for them.
+module _ (out : List ℕ) (tally : Tally) {out′ : List ℕ} {end : ℕ} where
+  pub changes : (name : List ℕ) (changed : Changed) {number pages : ℕ} {counts : List ℕ} → length name ≤ 5 →
+      (number ≡ numberOf (changed .answer)) × (number ≤ 6) → (pages ≡ pagesOf (changed .answer)) × (pages ≤ 4294967295) →
+      counts ≡ countsAfter (changed .answer) (changed .entries) (tally .entries) → Printed out (tally .length) (line name number) out′ end →
+      Changing name changed out tally out′ (record { length = end; pages = tally .pages + pages; entries = counts })
+  changes name changed {number} {pages} h n p c printed = record {
+    printed = rw (n .0) at printed;
+    short = omega (arith, printed .ends, line-digit name number (omega (arith, n .1)));
+    pages = ap (λ (m : ℕ). tally .pages + m) (p .0);
+    few = omega (arith, p .1);
+    counts = c;
+  }
+
+  pub asks : (w : List ℕ) (pair : Pair) (a : Asked) {held : ℕ} → askReply a ≡ askOf w pair → (held ≡ heldBy a) × (held ≤ 1) →
+      Printed out (tally .length) (line askName held) out′ end →
+      Asking (line askName (heldNumber (askOf w pair))) out tally out′ (record { length = end; pages = tally .pages; entries = tally .entries })
+  asks w pair a {held} e h printed = record {
+    printed = rw (h .0 ∙ sym (ask-told a) ∙ ap heldNumber e) at printed;
+    short = omega (arith, printed .ends, line-digit askName held (omega (arith, h .1)));
+    pages = refl;
+    counts = refl;
+  }
 
 -- What a call adds, and what it leaves.
 pub record Calling (m : Made) (store out : List ℕ) (tally : Tally) (store′ work′ out′ : List ℕ) (r : Tally) : Type 0 where
@@ -149,27 +186,42 @@ module _ (store work out : List ℕ) (tally : Tally) (counted : tally .entries �
     geometry = refl;
   }
 
+-- The call that a request asks for, by its operation.
+module _ (r : Request) (w work : List ℕ) where
+  pub put-made : r .operation ≡ Put → made r w work ≡ changing putName (putOf w work (r .pair))
+  unfolding made
+  put-made e = ap (λ (op : Operation). called op (r .pair) w work) e
+
+  pub drop-made : r .operation ≡ Drop → made r w work ≡ changing dropName (dropOf w work (r .pair))
+  unfolding made
+  drop-made e = ap (λ (op : Operation). called op (r .pair) w work) e
+
+  pub ask-made : r .operation ≡ Ask → made r w work ≡ record { text = line askName (heldNumber (askOf w (r .pair))); store = w; work = work; pages = 0 }
+  unfolding made
+  ask-made e = ap (λ (op : Operation). called op (r .pair) w work) e
+
 -- The lines of the levels, printed one after another.
-module _ (w : List ℕ) (at : ℕ) (counts : List ℕ) (levels : ℕ) where
-  pub two-printed : {v u : List ℕ} {a b : ℕ} → levels ≡ 2 → Printed w at (lineAt counts headName 0) v a → Printed v a (lineAt counts firstName 1) u b →
-      Printed w at (levelLines levels counts) u b
-  two-printed {u = u} {b = b} e p q =
-      rw (two-levels counts levels e) (printed-then w at (lineAt counts headName 0) (lineAt counts firstName 1) p q)
+module _ (w : List ℕ) (at levels : ℕ) where
+  pub three-printed : (second third : ℕ) {v : List ℕ} {a : ℕ} → levels ≡ 3 → Printed w at (line secondName second) v a →
+      Printed w at (lowerLines levels second third) v a
+  unfolding lowerLines
+  three-printed second third e p = rw (e, lowerLines) p
 
-  pub three-printed : {v u x : List ℕ} {a b c : ℕ} → levels ≡ 3 → Printed w at (lineAt counts headName 0) v a → Printed v a (lineAt counts firstName 1) u b →
-      Printed u b (lineAt counts secondName 2) x c → Printed w at (levelLines levels counts) x c
-  three-printed {v} {a = a} e p q r =
-      rw (three-levels counts levels e)
-      (printed-then w at (lineAt counts headName 0) (lineAt counts firstName 1 ++ lineAt counts secondName 2) p
-      (printed-then v a (lineAt counts firstName 1) (lineAt counts secondName 2) q r))
+  pub four-printed : (second third : ℕ) {v u : List ℕ} {a b : ℕ} → (levels ≡ 3 → ⊥) → Printed w at (line secondName second) v a →
+      Printed v a (line thirdName third) u b → Printed w at (lowerLines levels second third) u b
+  unfolding lowerLines
+  four-printed second third n p q = rw (ne-eqb levels 3 n, lowerLines) (printed-then w at (line secondName second) (line thirdName third) p q)
 
-  pub four-printed : {v u x y : List ℕ} {a b c d : ℕ} → levels ≡ 4 → Printed w at (lineAt counts headName 0) v a → Printed v a (lineAt counts firstName 1) u b →
-      Printed u b (lineAt counts secondName 2) x c → Printed x c (lineAt counts thirdName 3) y d → Printed w at (levelLines levels counts) y d
-  four-printed {v} {u} {a = a} {b = b} e p q r s =
-      rw (four-levels counts levels e)
-      (printed-then w at (lineAt counts headName 0) (lineAt counts firstName 1 ++ (lineAt counts secondName 2 ++ lineAt counts thirdName 3)) p
-      (printed-then v a (lineAt counts firstName 1) (lineAt counts secondName 2 ++ lineAt counts thirdName 3) q
-      (printed-then u b (lineAt counts secondName 2) (lineAt counts thirdName 3) r s)))
+  module _ (counts : List ℕ) {v u : List ℕ} {a b : ℕ} (p : Printed w at (lineAt counts headName 0) v a) (q : Printed v a (lineAt counts firstName 1) u b) where
+    pub two-printed : levels ≡ 2 → Printed w at (levelLines levels counts) u b
+    two-printed e = rw (two-levels counts levels e) (printed-then w at (lineAt counts headName 0) (lineAt counts firstName 1) p q)
+
+    pub more-printed : {x : List ℕ} {c : ℕ} → 3 ≤ levels → levels ≤ 4 → Printed u b (lowerLines levels (getD counts 2 0) (getD counts 3 0)) x c →
+        Printed w at (levelLines levels counts) x c
+    more-printed h k r =
+        let lower : List ℕ = lowerLines levels (getD counts 2 0) (getD counts 3 0) in
+        rw (more-levels counts levels h k)
+        (printed-then w at (lineAt counts headName 0) (lineAt counts firstName 1 ++ lower) p (printed-then v a (lineAt counts firstName 1) lower q r))
 
 -- Live pairs, the levels, the pages written.
 pub last-printed : (w : List ℕ) (at levels live : ℕ) (counts : List ℕ) (pages : ℕ) {v u x : List ℕ} {a b c : ℕ} → Printed w at (line liveName live) v a →

@@ -8,8 +8,8 @@ ghost use Rattle.rules.specs.Sound.{geometryOf, treeOf};
 ghost use Rattle.index.specs.Ask.{askOf};
 ghost use Rattle.reading.specs.Told.{Ready};
 ghost use Rattle.sheet_text.specs.Text.{line, askName, heldNumber, made, levelLines, lastLines, firstStore, firstWork, sheetOf, textRoom, printedIn};
-ghost use Rattle.sheet_text.specs.Answers.{numberOf, heldBy};
-ghost use Rattle.sheet_text.specs.Printed.{Printed, Within, Changing, Asking, Calling};
+ghost use Rattle.sheet_text.specs.Answers.{numberOf, pagesOf, countsAfter, heldBy};
+ghost use Rattle.sheet_text.specs.Printed.{Printed, Within, lowerLines, Changing, Asking, Calling};
 use geometry::Geometry;
 use index::Asked;
 use index::Changed;
@@ -147,20 +147,13 @@ fn changed_line(out: &mut [u8], name: &[u8], changed: Changed, tally: Tally) -> 
     ensures { λ r. ⌜ Changing (now (name .entry)) changed (now (out .entry)) tally (now (out .exit)) r ⌝ }
 {
     let answer = changed.answer;
+    let told = changed.entries;
+    let before = tally.entries;
     let length = print_line(out, tally.length, name, number_of(answer));
-    let Edited::Done(_, _, pages) = answer else {
-        let entries = tally.entries;
-        return Tally {
-            length,
-            pages: tally.pages,
-            entries,
-        };
-    };
-    let entries = changed.entries;
     Tally {
         length,
-        pages: tally.pages + pages as u64,
-        entries,
+        pages: tally.pages + pages_of(answer),
+        entries: counts_after(answer, told, before),
     }
 }
 
@@ -176,6 +169,36 @@ fn number_of(answer: Edited) -> u64
         Edited::Full => 4,
         Edited::Length => 5,
         Edited::Fault(_) => 6,
+    }
+}
+
+// The pages that a put or drop wrote.
+fn pages_of(answer: Edited) -> u64
+    ensures { λ r. ⌜ (r ≡ pagesOf answer) × (r ≤ 4294967295) ⌝ }
+{
+    match answer {
+        Edited::Done(_, _, pages) => pages as u64,
+        Edited::Range => 0,
+        Edited::Held => 0,
+        Edited::Missing => 0,
+        Edited::Full => 0,
+        Edited::Length => 0,
+        Edited::Fault(_) => 0,
+    }
+}
+
+// The counts of entries after a put or drop: an accepted one tells them, and a refused one leaves those before it.
+fn counts_after(answer: Edited, told: [u32; 4], before: [u32; 4]) -> [u32; 4]
+    ensures { λ r. ⌜ r ≡ countsAfter answer told before ⌝ }
+{
+    match answer {
+        Edited::Done(_, _, _) => told,
+        Edited::Range => before,
+        Edited::Held => before,
+        Edited::Missing => before,
+        Edited::Full => before,
+        Edited::Length => before,
+        Edited::Fault(_) => before,
     }
 }
 
@@ -198,16 +221,24 @@ fn ask_line(out: &mut [u8], store: &[u32], pair: Pair, tally: Tally) -> Tally
 fn held_number(answer: Asked) -> u64
     ensures { λ r. ⌜ (r ≡ heldBy answer) × (r ≤ 1) ⌝ }
 {
-    let Asked::Answer(held, _) = answer else {
-        return 0;
-    };
-    if held { 1 } else { 0 }
+    match answer {
+        Asked::Answer(held, _) => {
+            if held {
+                return 1;
+            }
+            0
+        }
+        Asked::Range => 0,
+        Asked::Length => 0,
+        Asked::Fault(_) => 0,
+    }
 }
 
 // The lines behind those of the calls.
 fn print_end(out: &mut [u8], g: Geometry, live: u32, tally: Tally) -> usize
     requires { ⌜ (2 ≤ g .levels) × (g .levels ≤ 4) ⌝ }
     requires { ⌜ tally .length + 192 ≤ length (now out) ⌝ }
+    requires { ⌜ tally .pages ≤ 4294967296 * 16384 ⌝ }
     ensures { λ r. ⌜ Printed (now (out .entry)) (tally .length) (lastLines (g .levels) live (tally .entries) (tally .pages)) (now (out .exit)) r ⌝ }
     ensures { λ r. ⌜ r ≤ length (now (out .entry)) ⌝ }
 {
@@ -229,11 +260,21 @@ fn print_levels(out: &mut [u8], at: usize, levels: u32, counts: [u32; 4]) -> usi
     if levels == 2 {
         return first;
     }
-    let second = print_line(out, first, b"level2=", counts[2] as u64);
+    print_lower(out, first, levels, counts[2], counts[3])
+}
+
+// Those in the levels below level 1, the second of which may not exist.
+fn print_lower(out: &mut [u8], at: usize, levels: u32, second: u32, third: u32) -> usize
+    requires { ⌜ (3 ≤ levels) × (levels ≤ 4) ⌝ }
+    requires { ⌜ at + 56 ≤ length (now out) ⌝ }
+    ensures { λ r. ⌜ Printed (now (out .entry)) at (lowerLines levels second third) (now (out .exit)) r ⌝ }
+    ensures { λ r. ⌜ r ≤ at + 56 ⌝ }
+{
+    let next = print_line(out, at, b"level2=", second as u64);
     if levels == 3 {
-        return second;
+        return next;
     }
-    print_line(out, second, b"level3=", counts[3] as u64)
+    print_line(out, next, b"level3=", third as u64)
 }
 
 // A line: a name, a number, byte 10.

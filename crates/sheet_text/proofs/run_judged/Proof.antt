@@ -1,0 +1,73 @@
+use native.Mathlib.Omega.{arith}
+use borrow.Author.Needs.{needs}
+use Rattle.sheet_text.proofs.run_judged.Statement.{statement}
+use Rattle.sheet_text.proofs.run_judged.Tie as tie
+use Rattle.sheet_text.proofs.run_judged.Reads as reads
+use Rattle.sheet_text.proofs.run_judged.Lts as lts
+use Rattle.geometry.proofs.plan_for.Reads as plan-for-reads
+use Rattle.sheet_text.proofs.run_on.Reads as run-on-reads
+
+-- src/lib.rt:48:9
+plan-for-requires : tie.Need-plan-for-requires
+plan-for-requires c κs = search needs
+
+-- src/lib.rt:49:23
+cast-store-words : tie.Need-cast-store-words
+cast-store-words c = search needs
+
+-- src/lib.rt:50:22
+cast-work-words : tie.Need-cast-work-words
+cast-work-words c = search needs
+
+-- src/lib.rt:57:9
+sub-run-on : tie.Need-sub-run-on
+sub-run-on c = search needs
+
+-- src/lib.rt:57:9
+part-store-start : tie.Need-part-store-start
+part-store-start c = search needs
+
+-- src/lib.rt:57:9
+part-store-end : tie.Need-part-store-end
+part-store-end c = search needs
+
+-- src/lib.rt:58:9
+sub-run-on-2 : tie.Need-sub-run-on-2
+sub-run-on-2 c = search needs
+
+-- src/lib.rt:58:9
+part-work-start : tie.Need-part-work-start
+part-work-start c = search needs
+
+-- src/lib.rt:58:9
+part-work-end : tie.Need-part-work-end
+part-work-end c = search needs
+
+-- src/lib.rt:53:5
+run-on-requires : tie.Need-run-on-requires
+run-on-requires c κs = search needs
+
+-- src/lib.rt:43:1
+same-length : tie.Need-same-length
+same-length c = search needs
+
+-- src/lib.rt:43:1
+returns : tie.Need-returns
+returns c = search needs
+
+pub run-judged-spec : {M : Type 1} → statement M
+run-judged-spec =
+    tie.close
+    (tie.spec
+    plan-for-requires
+    cast-store-words
+    cast-work-words
+    sub-run-on
+    part-store-start
+    part-store-end
+    sub-run-on-2
+    part-work-start
+    part-work-end
+    run-on-requires
+    same-length
+    returns)
