@@ -4,3 +4,4 @@ pub mod Counts
 pub mod Answers
 pub mod Printed
 pub mod Playing
+pub mod Begun

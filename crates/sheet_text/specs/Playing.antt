@@ -16,7 +16,7 @@ use Rattle.geometry.specs.Geometry.{InRange, inRange, between}
 use Rattle.geometry.specs.Places.{liveWord, storeWords}
 use Rattle.rules.specs.Tree.{Level, Tree, level}
 use Rattle.rules.specs.Merging.{entries, formatted}
-use Rattle.rules.specs.Store.{writing, emptyStore}
+use Rattle.rules.specs.Store.{directory, laidOut, writing, emptyStore}
 use Rattle.rules.specs.Sound.{geometryOf, treeOf}
 use Rattle.good.specs.Format.{formatted-good}
 use Rattle.promises.specs.Written.{good-tree}
@@ -65,6 +65,10 @@ first-counts g fit =
 first-geometry : (g : Geometry) → InRange g → geometryOf (firstStore g) ≡ g
 unfolding emptyStore
 first-geometry g fit = ap geometryOf (first-empty g fit) ∙ written-geometry g (formatted g)
+
+pub first-long : (g : Geometry) → InRange g → liveWord < length (firstStore g)
+unfolding emptyStore writing laidOut directory
+first-long g fit = rw (first-empty g fit) (omega arith)
 
 -- The requests left, from a line on, and what they add to the buffer.
 pub record Playing (input : List ℕ) (g : Geometry) (start : List ℕ) (at : ℕ) (tally : Tally) (store work out : List ℕ) : Type 0 where

@@ -6,6 +6,7 @@ ghost use Rattle.geometry.specs.Places.{storeWords};
 ghost use Rattle.rules.specs.Merging.{entries};
 ghost use Rattle.rules.specs.Sound.{geometryOf, treeOf};
 ghost use Rattle.index.specs.Ask.{askOf};
+ghost use Rattle.reading.specs.Sheet.{mostWords};
 ghost use Rattle.reading.specs.Told.{Ready};
 ghost use Rattle.sheet_text.specs.Text.{line, askName, heldNumber, made, levelLines, lastLines, firstStore, firstWork, sheetOf, textRoom, printedIn};
 ghost use Rattle.sheet_text.specs.Answers.{numberOf, pagesOf, countsAfter, heldBy};
@@ -48,8 +49,8 @@ fn run_judged(input: &[u8], at: usize, g: Geometry, out: &mut [u8]) -> usize
     let plan = geometry::plan_for(g);
     let store_words = plan.store_words as usize;
     let work_words = plan.work_words as usize;
-    let mut store = [0u32; 4096];
-    let mut work = [0u32; 4096];
+    let mut store = zeros();
+    let mut work = zeros();
     run_on(
         input,
         at,
@@ -58,6 +59,13 @@ fn run_judged(input: &[u8], at: usize, g: Geometry, out: &mut [u8]) -> usize
         &mut work[0..work_words],
         out,
     )
+}
+
+// Words for any store or work area of a sheet, which hold zeros.
+fn zeros() -> [u32; 4096]
+    ensures { λ r. ⌜ r ≡ replicate mostWords 0 ⌝ }
+{
+    [0; 4096]
 }
 
 // So it is on words of a store and of a work area that hold zeros.

@@ -1,3 +1,5 @@
+use denote.Ref.{now}
+use Rattle.sheet_text.specs.Begun.{formats}
 use native.Mathlib.Omega.{arith}
 use borrow.Author.Needs.{needs}
 use Rattle.sheet_text.proofs.run_on.Statement.{statement}
@@ -13,7 +15,7 @@ format-requires c κs = search needs
 
 -- src/lib.rt:79:5
 make-calls-requires : tie.Need-make-calls-requires
-make-calls-requires c κs = search needs
+make-calls-requires c κs = (c .before .before .before .before .before .before .before .before .before .before .before .pre .0, (formats (c .before .before .before .before .before .before .before .before .before .before .before .args .g) (c .before .before .before .before .before .format .result) (now (c .before .before .before .before .before .before .before .before .before .before .before .args .store)) _ (c .before .before .before .before .before .before .before .before .before .before .before .pre .1 .0) (c .before .before .before .before .before .format .ensures), (c .before .before .before .before .before .before .before .before .before .before .before .pre .1 .1 .0, c .before .before .before .before .before .before .before .before .before .before .before .pre .1 .1 .1)))
 
 -- src/lib.rt:64:1
 same-length : tie.Need-same-length
@@ -29,7 +31,7 @@ same-length-3 c = search needs
 
 -- src/lib.rt:64:1
 returns : tie.Need-returns
-returns c = search needs
+returns c = c .before .before .before .before .before .before .make-calls .ensures
 
 pub run-on-spec : {M : Type 1} → statement M
 run-on-spec =
