@@ -8,17 +8,19 @@ ghost use Rattle.geometry.specs.Places.{planOf, storeWords, liveWord, headCount
 ghost use Rattle.slot.specs.Slot.{wordsOf};
 ghost use Rattle.rules.specs.Level.{index};
 ghost use Rattle.rules.specs.Merging.{entries};
-ghost use Rattle.rules.specs.Sound.{treeOf};
-ghost use Rattle.entries.specs.Run.{Inside, entry as indexed, entriesIn};
+ghost use Rattle.rules.specs.Sound.{treeOf, entriesOf};
+ghost use Rattle.entries.specs.Run.{Inside, entry as indexed, pageIn, entriesIn};
 ghost use Rattle.entries.specs.Levels.{AllInside, PagesWithin, treeIn};
 ghost use Rattle.edit.specs.Head.{slotIn, slotOut, entryAdded, entryRemoved};
 use entries::Entry;
-use entries::Next;
 use entries::Run;
 use entries::Runs;
 use geometry::Geometry;
 use geometry::Plan;
+use laws::one_if;
+use page::is_fence;
 use slot::Slot;
+use slot::read_slot;
 
 // Adds an entry to the head behind the first slots, so many.
 pub fn add_entry(store: &mut [u32], entry: Entry, behind: u32)
@@ -111,12 +113,29 @@ pub fn count_entries(words: &[u32], run: Run) -> u32
     ensures { λ r. ⌜ r ≡ length (entriesIn (now (words .entry)) run) ⌝ }
 {
     let mut count: u32 = 0;
-    let mut front = entries::first_entry(words, run);
-    loop {
-        let Next::Found(_, cursor) = front else {
-            return count;
-        };
-        front = entries::next_entry(words, run, cursor);
-        count += 1;
+    let mut page: u32 = 0;
+    while page < run.pages {
+        count += count_in_page(words, run, page);
+        page += 1;
     }
+    count
+}
+
+// Those of one of its pages.
+fn count_in_page(words: &[u32], run: Run, page: u32) -> u32
+    requires { ⌜ Inside run (length (now words)) ⌝ }
+    requires { ⌜ page < run .pages ⌝ }
+    ensures exact { λ r. ⌜ r ≡ length (entriesOf (pageIn (now (words .entry)) run page)) ⌝ }
+    ensures few { λ r. ⌜ r ≤ 4000 ⌝ }
+{
+    let slots = entries::count_in(words, run, page);
+    let mut count: u32 = 0;
+    let mut slot: u32 = 0;
+    while slot < slots {
+        let read = read_slot(words, entries::place_in(run, page, slot));
+        let kind = read.kind;
+        count += one_if(!is_fence(kind));
+        slot += 1;
+    }
+    count
 }

@@ -172,7 +172,7 @@ pub fn next_entry(words: &[u32], run: Run, from: Cursor) -> Next
 }
 
 // The slot count of a page, read as at most the run's.
-fn count_in(words: &[u32], run: Run, page: u32) -> u32
+pub fn count_in(words: &[u32], run: Run, page: u32) -> u32
     requires { ⌜ Inside run (length (now words)) ⌝ }
     requires { ⌜ page < run .pages ⌝ }
     ensures { λ r. ⌜ r ≡ countIn (now (words .entry)) run page ⌝ }
@@ -182,7 +182,7 @@ fn count_in(words: &[u32], run: Run, page: u32) -> u32
 }
 
 // The first word of a slot of a page.
-fn place_in(run: Run, page: u32, slot: u32) -> usize
+pub fn place_in(run: Run, page: u32, slot: u32) -> usize
     ensures { λ r. ⌜ r ≡ placeIn run page slot ⌝ }
 {
     run.start as usize

@@ -7,14 +7,14 @@ ghost use mathlib.Core.Bool.{_&&_, _||_, cond};
 pub fn both(a: bool, b: bool) -> bool
     ensures { λ r. ⌜ r ≡ (a && b) ⌝ }
 {
-    if a { b } else { false }
+    a & b
 }
 
 // One of two tests or both, as a value.
 pub fn either(a: bool, b: bool) -> bool
     ensures { λ r. ⌜ r ≡ (a || b) ⌝ }
 {
-    if a { true } else { b }
+    a | b
 }
 
 // 1 where a test passes, else 0.

@@ -8,6 +8,7 @@ ghost use Rattle.rules.specs.Level.{fenceKind};
 ghost use Rattle.rules.specs.Finding.{normalKind};
 ghost use Rattle.rules.specs.Sound.{legal, slotsFrom};
 ghost use Rattle.page.specs.Scan.{started, stepped, scanned, mayFollow};
+ghost use Rattle.page.specs.Tag.{pagesNamed, internalKind};
 ghost use Rattle.page.specs.Tell.{fenceBack, metIn};
 use laws::both;
 use laws::either;
@@ -119,11 +120,32 @@ pub fn is_legal(slot: Slot, inner: bool, below: u32) -> bool
 {
     let kind = slot.kind;
     let page = slot.page;
+    both(
+        page.0 < pages_named(kind, below),
+        either(inner, !is_internal(kind)),
+    )
+}
+
+// How many pages a slot of this kind may name: those below, or page 0 alone.
+fn pages_named(kind: Kind, below: u32) -> u32
+    ensures { λ r. ⌜ r ≡ pagesNamed below kind ⌝ }
+{
     match kind {
-        Kind::Normal => page.0 == 0,
-        Kind::Filter => page.0 == 0,
-        Kind::External => page.0 < below,
-        Kind::Internal => both(inner, page.0 < below),
+        Kind::Normal => 1,
+        Kind::Filter => 1,
+        Kind::External => below,
+        Kind::Internal => below,
+    }
+}
+
+fn is_internal(kind: Kind) -> bool
+    ensures { λ r. ⌜ r ≡ internalKind kind ⌝ }
+{
+    match kind {
+        Kind::Normal => false,
+        Kind::Filter => false,
+        Kind::External => false,
+        Kind::Internal => true,
     }
 }
 

@@ -99,8 +99,7 @@ module _ (w : List ℕ) (start at n : ℕ) (c : Counting w start at n) where
     -- Byte 10 ends the line.
     pub count-ends : byte ≡ 10 → ReadAs w start 0 (digitsIn 0) (Number n (at + 1))
     count-ends e =
-        let ends : ahead w at ≡ some [] ∷ ahead w (suc at) = here ∙ line-ends byte (drop (suc at) w) e in
-        (
+        let ends : ahead w at ≡ some [] ∷ ahead w (suc at) = here ∙ line-ends byte (drop (suc at) w) e in (
           c .number ∙ ap (λ (ls : List Line). digitsIn n (firstOf ls)) ends ∙ digits-end n,
           record {
             follows = c .rest ∙ ap restOf ends ∙ ap (ahead w) (sym (add-one at));

@@ -123,7 +123,7 @@ judged bytes = elim (leb (length bytes) mostBytes) [ true ↦ judgedLines (lines
 pub requests-here : (n : ℕ) (bytes : List ℕ) → 1 ≤ length bytes →
     let ls = linesOf bytes in
     requestsFrom n ls ≡ group n (operation (firstOf ls)) (value badgeName (firstOf (restOf ls))) (value floorName (firstOf (restOf (restOf ls))))
-        (requestsFrom (n + 3) (restOf (restOf (restOf ls))))
+    (requestsFrom (n + 3) (restOf (restOf (restOf ls))))
 unfolding linesOf requestsFrom behind
 requests-here n [] h = absurd (omega arith)
 requests-here n (b ∷ bytes) h = by (eqb b 10) (linesOf bytes)
@@ -131,7 +131,7 @@ requests-here n (b ∷ bytes) h = by (eqb b 10) (linesOf bytes)
     Here : List Line → Type 0
     Here ls =
         requestsFrom n ls ≡ group n (operation (firstOf ls)) (value badgeName (firstOf (restOf ls))) (value floorName (firstOf (restOf (restOf ls))))
-            (requestsFrom (n + 3) (restOf (restOf (restOf ls))))
+        (requestsFrom (n + 3) (restOf (restOf (restOf ls))))
 
     here : (l : Line) (ls : List Line) → Here (l ∷ ls)
     here l [] = refl

@@ -134,7 +134,7 @@ module _ (w : List ℕ) (at : ℕ) (here : at < length w) where
 
   step : (n : ℕ) →
       requestsFrom n lines ≡ group n (operation (firstOf lines)) (value badgeName (firstOf (restOf lines))) (value floorName (firstOf (restOf (restOf lines))))
-          (requestsFrom (n + 3) (restOf (restOf (restOf lines))))
+      (requestsFrom (n + 3) (restOf (restOf (restOf lines))))
   step n = requests-here n (drop at w) (omega (arith, length-drop at w))
 
   pub group-unnamed : NamedAs w at Unknown → GroupAs w at (FaultyGroup 0)

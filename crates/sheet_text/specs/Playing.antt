@@ -157,7 +157,7 @@ module _ (input : List ℕ) (g : Geometry) (start : List ℕ) where
         let none : requestsFrom (c .line) (ahead input at) ≡ good [] = ap (λ (l : List ℕ). requestsFrom (c .line) (linesOf l)) (drop-of-length-le input h) in
         let are : good (c .requests) ≡ good [] = sym (c .follow) ∙ none in
         let last : textFrom g store work (tally .pages) (c .requests) ≡ lastLines (g .levels) (getD store liveWord 0) (tally .entries) (tally .pages) =
-            end-text (cc) in
+        end-text (cc) in
         record {
           printed = record { ends = p .ends ∙ omega (arith, c .ends, ap length last); stands = p .stands ∙ ap (sets out (tally .length)) (sym last) ∙ c .stands };
           fits = omega (arith, fits, c .long);

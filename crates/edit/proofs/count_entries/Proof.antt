@@ -1,57 +1,39 @@
-use lib.ListN.{length}
-use denote.Ref.{now}
-use Rattle.entries.specs.Run.{ahead}
-use Rattle.edit.specs.Counts.{Counted, count-begins, count-falls, count-goes-on, count-small, count-ends}
-use borrow.Author.Needs.{needs}
+-- `count_entries` counts the index entries of a run, page by page. Assumes nothing.
+use Prim.Native.Nat.{_-_}
 use native.Mathlib.Omega.{arith}
+use denote.Ref.{now}
+use Rattle.edit.specs.Counts.{PagesCounted, pages-begin, pages-go-on, pages-end}
 use Rattle.edit.proofs.count_entries.Statement.{statement}
 use Rattle.edit.proofs.count_entries.Tie as tie
 
 abbrev Inv-loop : tie.InvT-loop
-Inv-loop words run count₀ front₀ count front = Counted words run count front
+Inv-loop words run count₀ page₀ count page = PagesCounted words run page count
 
 abbrev μ-loop : tie.MeasureT-loop
-μ-loop words run count₀ front₀ count front = length (ahead words run front)
-
-first-entry-requires : tie.Need-first-entry-requires Inv-loop μ-loop
-first-entry-requires c κs = search needs
+μ-loop words run count₀ page₀ count page = run .pages - page
 
 loop-holds : tie.Need-loop-holds Inv-loop μ-loop
-loop-holds c = count-begins (now (c .before .before .args .words)) (c .before .before .args .run) _ (c .first-entry .ensures)
+loop-holds c = pages-begin _ _
 
-enum-known-front : tie.Need-enum-known-front Inv-loop μ-loop
-enum-known-front c = search needs
-
-enum-told : tie.Need-enum-told Inv-loop μ-loop
-enum-told c = search needs
-
-returns : tie.Need-returns Inv-loop μ-loop
-returns c = count-ends (now (c .before .before .before .before .before .args .words)) (c .before .before .before .before .before .args .run) (c .before .before .loop .count) (c .before .before .loop .front) (c .enum-told .given .1) (c .before .before .loop .inv)
-
-next-entry-requires : tie.Need-next-entry-requires Inv-loop μ-loop
-next-entry-requires c κs = search needs
+count-in-page-requires : tie.Need-count-in-page-requires Inv-loop μ-loop
+count-in-page-requires c κs = (c .before .before .before .before .pre, c .if1 .taken)
 
 add-count : tie.Need-add-count Inv-loop μ-loop
-add-count c = let n = count-small (now (c .before .before .before .before .before .before .before .args .words)) (c .before .before .before .before .before .before .before .args .run) (c .before .before .before .before .loop .count) (c .before .before .before .before .loop .front) (c .next-entry .result) _ _ (c .before .before .front .given .1) (c .next-entry .ensures) _ (c .before .before .before .before .before .before .before .pre) (c .before .before .before .before .loop .inv) in omega (arith, n)
+add-count c = omega (arith, c .before .before .before .loop .inv .few, c .before .before .before .loop .inv .inside, c .before .before .before .before .before .pre .few-pages, c .count-in-page .ensures .1)
+
+add-page : tie.Need-add-page Inv-loop μ-loop
+add-page c = omega (arith, c .before .before .before .loop .inv .inside, c .before .before .before .before .before .pre .few-pages)
 
 loop-less : tie.Need-loop-less Inv-loop μ-loop
-loop-less c = count-falls (now (c .before .before .before .before .before .before .before .args .words)) (c .before .before .before .before .before .before .before .args .run) (c .before .before .before .before .loop .count) (c .before .before .before .before .loop .front) (c .next-entry .result) _ _ (c .before .before .front .given .1) (c .next-entry .ensures)
+loop-less c = omega (arith, c .before .if1 .taken)
 
 loop-again : tie.Need-loop-again Inv-loop μ-loop
-loop-again c = count-goes-on (now (c .before .before .before .before .before .before .before .args .words)) (c .before .before .before .before .before .before .before .args .run) (c .before .before .before .before .loop .count) (c .before .before .before .before .loop .front) (c .next-entry .result) _ _ (c .before .before .front .given .1) (c .next-entry .ensures) (c .before .before .before .before .loop .inv)
+loop-again c = pages-go-on (now (c .before .before .before .before .before .args .words)) (c .before .before .before .before .before .args .run) _ _ _ (c .before .if1 .taken) (c .count-in-page .ensures .0) (c .count-in-page .ensures .1) (c .before .before .before .loop .inv)
+
+returns : tie.Need-returns Inv-loop μ-loop
+returns c = pages-end (now (c .before .before .before .before .args .words)) (c .before .before .before .before .args .run) _ _ (c .if1 .left) (c .before .before .loop .inv)
 
 pub count-entries-spec : {M : Type 1} → statement M
 count-entries-spec =
     tie.close
-    (tie.spec
-    Inv-loop
-    μ-loop
-    first-entry-requires
-    loop-holds
-    enum-known-front
-    enum-told
-    returns
-    next-entry-requires
-    add-count
-    loop-less
-    loop-again)
+    (tie.spec Inv-loop μ-loop loop-holds count-in-page-requires add-count add-page loop-less loop-again returns)

@@ -1,50 +1,30 @@
--- `is_legal` tells whether a slot's tag is legal, kind by kind. Assumes nothing.
+-- `is_legal` tells whether a slot's tag is legal, by how many pages it may name. Assumes nothing.
 use Rattle.rules.specs.Sound.{legal}
+use Rattle.page.specs.Tag.{legal-by-bound}
 use borrow.Author.Needs.{needs}
 use Rattle.page.proofs.is_legal.Statement.{statement}
 use Rattle.page.proofs.is_legal.Tie as tie
 
-enum-told : tie.Need-enum-told
-enum-told c = search needs
+pages-named-requires : tie.Need-pages-named-requires
+pages-named-requires c κs = search needs
 
-enum-told-2 : tie.Need-enum-told-2
-enum-told-2 c = search needs
+is-internal-requires : tie.Need-is-internal-requires
+is-internal-requires c κs = search needs
 
-enum-told-3 : tie.Need-enum-told-3
-enum-told-3 c = search needs
-
-enum-told-4 : tie.Need-enum-told-4
-enum-told-4 c = search needs
+either-requires : tie.Need-either-requires
+either-requires c κs = search needs
 
 both-requires : tie.Need-both-requires
 both-requires c κs = search needs
 
 returns : tie.Need-returns
 unfolding legal
-returns c = rw (c .before .enum-told .given .1)
-
-returns-2 : tie.Need-returns-2
-unfolding legal
-returns-2 c = rw (c .before .enum-told2 .given .1)
-
-returns-3 : tie.Need-returns-3
-unfolding legal
-returns-3 c = rw (c .before .enum-told3 .given .1)
-
-returns-4 : tie.Need-returns-4
-unfolding legal
-returns-4 c = rw (c .before .before .enum-told4 .given .1, c .both .ensures)
+returns c =
+    let s = c .before .before .before .before .before .before .args .slot in
+    rw (c .both .ensures, c .before .either .ensures, c .before .before .is-internal .ensures, c .before .before .before .before .pages-named .ensures)
+    (legal-by-bound (c .before .before .before .before .before .before .args .inner) (c .before .before .before .before .before .before .args .below) (s .kind) (s .page .0))
 
 pub is-legal-spec : {M : Type 1} → statement M
 is-legal-spec =
     tie.close
-    (tie.spec
-    enum-told
-    enum-told-2
-    enum-told-3
-    enum-told-4
-    both-requires
-    returns
-    returns-2
-    returns-3
-    returns-4)
+    (tie.spec pages-named-requires is-internal-requires either-requires both-requires returns)
