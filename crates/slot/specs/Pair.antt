@@ -6,8 +6,8 @@ use mathlib.Core.Path.{_≡_, refl}
 use mathlib.Core.Logic.{_≢_}
 use mathlib.Core.Bool.{Bool, true, false, _||_}
 use lib.Dec.{ltb, eqb}
-use borrow.Author.Tests.{lt-ltb, le-ltb, ltb-true, eqb-true, ne-eqb}
-use Rattle.laws.specs.Tests.{ltb-agree, eqb-agree}
+use borrow.Author.Tests.{lt-ltb, le-ltb, ltb-true, eqb-true}
+use Rattle.laws.specs.Tests.{ltb-agree}
 use Rattle.slot.specs.declared.Pair.{Pair}
 
 -- A pair of a badge and a floor.
@@ -74,17 +74,6 @@ before-badge {a} {b} fa fb n =
 pub before-floor : (a b : Pair) → a .badge ≡ b .badge → before a b ≡ ltb (a .floor .0) (b .floor .0)
 unfolding rank before
 before-floor a b e = ltb-agree (rank a) (rank b) (a .floor .0) (b .floor .0) (λ h. omega arith) (λ h. omega arith)
-
--- One pair: one badge and one floor.
-pub same-badge : {a b : Pair} → Words a → Words b → (a .badge ≡ b .badge → ⊥) → same a b ≡ false
-unfolding rank same
-same-badge {a} {b} fa fb n =
-    let d : a .badge ≢ b .badge = n in
-    ne-eqb (rank a) (rank b) λ h. omega arith
-
-pub same-floor : (a b : Pair) → a .badge ≡ b .badge → same a b ≡ eqb (a .floor .0) (b .floor .0)
-unfolding rank same
-same-floor a b e = eqb-agree (rank a) (rank b) (a .floor .0) (b .floor .0) (λ h. omega arith) (λ h. omega arith)
 
 -- Two pairs of one rank are one pair.
 pub rank-same : {a b : Pair} → Words a → Words b → rank a ≡ rank b → a ≡ b

@@ -3,7 +3,7 @@ ghost use Prim.Native.Nat.{_+_, _*_, _^_, _≤_, _<_};
 ghost use mathlib.Core.Path.{_≡_};
 ghost use lib.ListN.{length};
 ghost use lib.Seq.{sets};
-ghost use Rattle.slot.specs.Pair.{least, before, same};
+ghost use Rattle.slot.specs.Pair.{rank, least, before, same};
 ghost use Rattle.slot.specs.Tag.{kindNumber, kindOf, pageOf, tagOf};
 ghost use Rattle.slot.specs.Slot.{slotAt, wordsOf};
 
@@ -46,28 +46,26 @@ pub fn least_pair() -> Pair
     }
 }
 
-// Whether a comes before b in the order of pairs: by badge, then floor.
+// Whether a comes before b in the order of pairs.
 pub fn comes_before(a: Pair, b: Pair) -> bool
     ensures { λ r. ⌜ r ≡ before a b ⌝ }
 {
-    if a.badge != b.badge {
-        return a.badge < b.badge;
-    }
-    let left = a.floor;
-    let right = b.floor;
-    left.0 < right.0
+    rank_of(a) < rank_of(b)
 }
 
 // Whether a and b are one pair.
 pub fn same_pair(a: Pair, b: Pair) -> bool
     ensures { λ r. ⌜ r ≡ same a b ⌝ }
 {
-    if a.badge != b.badge {
-        return false;
-    }
-    let left = a.floor;
-    let right = b.floor;
-    left.0 == right.0
+    rank_of(a) == rank_of(b)
+}
+
+// A pair's place in the order of pairs: by badge, then floor.
+fn rank_of(pair: Pair) -> u64
+    ensures { λ r. ⌜ r ≡ rank pair ⌝ }
+{
+    let floor = pair.floor;
+    4294967296 * pair.badge as u64 + floor.0 as u64
 }
 
 // The kind of a tag: its remainder by 4.
