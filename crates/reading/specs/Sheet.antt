@@ -1,7 +1,7 @@
 -- The paper's section "The sheet program", as far as it is read: a sheet is a geometry and requests, or its first faulty line is told. Assumes nothing.
-use Prim.Native.Nat.{ℕ, zero, suc, _+_, _≤_}
+use Prim.Native.Nat.{ℕ, _+_, _≤_}
 use native.Mathlib.Omega.{arith}
-use mathlib.Core.Path.{_≡_, refl, sym, ap, _∙_}
+use mathlib.Core.Path.{_≡_, refl}
 use mathlib.Core.Bool.{Bool, true, false, cond}
 use mathlib.Core.List.{List, [], _∷_}
 use mathlib.Core.Option.{Option, some, none}
@@ -10,7 +10,6 @@ use lib.Dec.{leb, eqb}
 use Rattle.geometry.specs.declared.Geometry.{Geometry}
 use Rattle.geometry.specs.Geometry.{between}
 use Rattle.geometry.specs.Places.{storeWords}
-use Rattle.slot.specs.declared.Pair.{Pair}
 use Rattle.reading.specs.declared.Operation.{Operation}
 use Rattle.reading.specs.declared.Operation.the-variants.{Put, Drop, Ask}
 use Rattle.reading.specs.declared.Request.{Request}

@@ -1,15 +1,12 @@
 -- What the answers of src/lib.rt tell of the lines from a place of the input on. Assumes nothing.
-use Prim.Native.Nat.{ℕ, zero, suc, _+_, _≤_, _<_}
-use native.Mathlib.Omega.{arith}
-use mathlib.Core.Path.{_≡_, refl, sym, ap, _∙_}
-use mathlib.Core.Bool.{Bool, true, false}
-use mathlib.Core.List.{List, [], _∷_}
+use Prim.Native.Nat.{ℕ, _+_, _≤_, _<_}
+use mathlib.Core.Path.{_≡_}
+use mathlib.Core.List.{List}
 use mathlib.Core.Option.{Option, some, none}
 use lib.ListN.{length, drop}
 use Rattle.geometry.specs.declared.Geometry.{Geometry}
 use Rattle.geometry.specs.Geometry.{InRange}
 use Rattle.geometry.specs.Places.{storeWords}
-use Rattle.reading.specs.declared.Operation.{Operation}
 use Rattle.reading.specs.declared.Request.{Request}
 use Rattle.reading.specs.declared.Value.{Value}
 use Rattle.reading.specs.declared.Value.the-variants.{Number, Faulty as FaultyValue}
@@ -22,7 +19,7 @@ use Rattle.reading.specs.declared.Requests.the-variants.{Faulty as Fault
 use Rattle.reading.specs.declared.Judgement.{Judgement}
 use Rattle.reading.specs.declared.Judgement.the-variants.{Faulty as FaultySheet, Good as GoodSheet}
 use Rattle.reading.specs.Lines.{Line, linesOf, firstOf, restOf}
-use Rattle.reading.specs.Sheet.{Judged, faulty, good, Sheet, sheetFor, joined, operation, requestsFrom, judgedLines, judged, mostBytes, mostWords}
+use Rattle.reading.specs.Sheet.{Judged, faulty, good, sheetFor, joined, operation, requestsFrom, judgedLines, judged, mostBytes, mostWords}
 
 -- The lines from a place on.
 abbrev pub ahead : List ℕ → ℕ → List Line

@@ -1,9 +1,9 @@
 -- What the answers of the calls tell of a sheet's lines: the reply number, the pages written, the counts, and whether a pair is held. Assumes nothing.
-use Prim.Native.Nat.{ℕ, zero, suc}
+use Prim.Native.Nat.{ℕ, suc}
 use native.Mathlib.Omega.{arith}
 use mathlib.Core.Path.{_≡_, refl, sym, ap, _∙_}
-use mathlib.Core.Bool.{Bool, true, false, cond}
-use mathlib.Core.List.{List, [], _∷_}
+use mathlib.Core.Bool.{cond}
+use mathlib.Core.List.{List}
 use lib.ListN.{getD, drop}
 use Rattle.rules.specs.Merging.{entries}
 use Rattle.rules.specs.Sound.{geometryOf, treeOf}
@@ -13,7 +13,6 @@ use Rattle.index.specs.declared.Asked.{Asked}
 use Rattle.index.specs.declared.Asked.the-variants.{Answer, Range as RangeAsked, Length as LengthAsked, Fault as FaultAsked}
 use Rattle.index.specs.declared.Formatted.{Formatted}
 use Rattle.index.specs.declared.Formatted.the-variants.{Done as DoneFormat, Range as RangeFormat, Length as LengthFormat}
-use Rattle.index.specs.List.{Filled}
 use Rattle.index.specs.Ask.{askReply}
 use Rattle.index.specs.Edit.{Kept, editReply}
 use Rattle.index.specs.Format.{formatReply}

@@ -1,17 +1,14 @@
 -- How a sheet begins: the store and the work area are parts of words that hold zeros, and the store is formatted; and where its text ends up. Assumes
 -- nothing.
-use Prim.Native.Nat.{ℕ, zero, suc, _+_, _-_, _≤_, _<_}
+use Prim.Native.Nat.{ℕ, _+_, _-_, _≤_, _<_}
 use native.Mathlib.Omega.{arith}
-use mathlib.Core.Path.{_≡_, refl, sym, ap, _∙_}
-use mathlib.Core.Bool.{true, false}
-use mathlib.Core.List.{List, [], _∷_, _++_}
-use lib.ListN.{length, take, drop, replicate, length-replicate, replicate-append-replicate}
+use mathlib.Core.Path.{_≡_, sym, ap, _∙_}
+use mathlib.Core.List.{List, _++_}
+use lib.ListN.{length, take, replicate, length-replicate, replicate-append-replicate}
 use lib.Seq.{take-at}
-use lib.Dec.{leb}
 use borrow.Author.Tests.{le-leb, lt-leb}
 use Rattle.geometry.specs.declared.Geometry.{Geometry}
 use Rattle.geometry.specs.declared.Plan.{Plan}
-use Rattle.geometry.specs.Geometry.{room}
 use Rattle.geometry.specs.Places.{roomBefore, levelStart, storeWords, workWords, planOf}
 use Rattle.geometry.specs.Lent.{plan-words}
 use Rattle.index.specs.declared.Formatted.{Formatted}

@@ -2,7 +2,7 @@
 -- stands then; a refusal leaves the store. Assumes nothing.
 use Prim.Native.Nat.{ℕ, zero, suc, _<_}
 use native.Mathlib.Omega.{arith}
-use mathlib.Core.Path.{_≡_, refl, sym, ap, _∙_}
+use mathlib.Core.Path.{_≡_, refl}
 use mathlib.Core.Bool.{Bool, true, false}
 use mathlib.Core.List.{List, [], _∷_}
 use lib.ListN.{getD, drop}
@@ -12,16 +12,16 @@ use Rattle.geometry.specs.Geometry.{most}
 use Rattle.geometry.specs.Places.{liveWord, headWord, ratioWord, levelsWord}
 use Rattle.slot.specs.declared.Pair.{Pair}
 use Rattle.rules.specs.Tree.{Entry}
-use Rattle.rules.specs.Merging.{entries, edit, State}
-use Rattle.rules.specs.Store.{writing, laidOut, directory, emptyStore}
+use Rattle.rules.specs.Merging.{entries, State}
+use Rattle.rules.specs.Store.{writing, laidOut, directory}
 use Rattle.rules.specs.Sound.{Fault, sound, faultAt, geometryOf, treeOf, headSlots, fault}
 use Rattle.walk.specs.declared.Walked.{Walked}
 use Rattle.walk.specs.declared.Walked.the-variants.{Found, Fault as FaultWalked}
 use Rattle.walk.specs.Walk.{walked}
 use Rattle.edited.specs.Reach.{reach}
-use Rattle.change.specs.Change.{liveAfter, headEdited, editedBehind, fillsHead, Changed, changedHead, changedTree, stayed, mergedChange, changeOf}
+use Rattle.change.specs.Change.{headEdited, editedBehind, fillsHead, Changed, changedHead, changedTree, stayed, mergedChange, changeOf}
 use Rattle.change.specs.Head.{edited-directory}
-use Rattle.index.specs.Edit.{Kept, kept, changedReply, changeReply, putFound, dropFound, foundOf, afterWalk, afterOpening, openingBoth, editOf, zeros}
+use Rattle.index.specs.Edit.{Kept, kept, changedReply, putFound, dropFound, foundOf, afterWalk, afterOpening, openingBoth, editOf, zeros}
 
 -- A call that was refused and left the store, or that was accepted and told the counts of the store that it left.
 pub data Left (w : List ℕ) (k : Kept) : Type 0 where

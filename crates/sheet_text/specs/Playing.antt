@@ -3,25 +3,24 @@ use Prim.Native.Nat.{ℕ, zero, suc, _+_, _*_, _≤_, _<_}
 use native.Mathlib.Nat.{zero-add}
 use native.Mathlib.Omega.{arith}
 use mathlib.Core.Path.{_≡_, refl, sym, ap, _∙_}
-use mathlib.Core.Bool.{Bool, true, false}
+use mathlib.Core.Bool.{true}
 use mathlib.Core.List.{List, [], _∷_, _++_}
 use lib.ListN.{length, getD, replicate, length-append, length-replicate, drop-of-length-le}
 use lib.Seq.{sets, length-sets}
-use lib.Dec.{leb, eqb}
-use borrow.Author.Tests.{le-leb, lt-leb, eq-eqb}
+use borrow.Author.Tests.{le-leb, eq-eqb}
 use Rattle.laws.specs.Sets.{sets-behind}
 use Rattle.laws.specs.Lists.{span}
 use Rattle.geometry.specs.declared.Geometry.{Geometry}
 use Rattle.geometry.specs.Geometry.{InRange, inRange, between}
 use Rattle.geometry.specs.Places.{liveWord, storeWords}
-use Rattle.rules.specs.Tree.{Level, Tree, level}
+use Rattle.rules.specs.Tree.{level}
 use Rattle.rules.specs.Merging.{entries, formatted}
 use Rattle.rules.specs.Store.{directory, laidOut, writing, emptyStore}
 use Rattle.rules.specs.Sound.{geometryOf, treeOf}
 use Rattle.good.specs.Format.{formatted-good}
 use Rattle.promises.specs.Written.{good-tree}
 use Rattle.index.specs.List.{Filled}
-use Rattle.index.specs.Format.{formatOf, format-done}
+use Rattle.index.specs.Format.{format-done}
 use Rattle.reading.specs.declared.Request.{Request}
 use Rattle.reading.specs.declared.Group.the-variants.{Faulty}
 use Rattle.reading.specs.Lines.{linesOf}

@@ -1,42 +1,31 @@
 -- How the text of a sheet comes into the buffer: text put behind text, a call's line, and all calls one after another. Assumes nothing.
-use Prim.Native.Nat.{ℕ, zero, suc, _+_, _*_, _^_, _≤_, _<_}
-use native.Mathlib.Nat.{zero-add, add-zero}
+use Prim.Native.Nat.{ℕ, zero, suc, _+_, _≤_, _<_}
+use native.Mathlib.Nat.{add-zero}
 use native.Mathlib.Omega.{arith}
 use mathlib.Core.Path.{_≡_, refl, sym, ap, _∙_}
 use mathlib.Core.Bool.{Bool, true, false}
-use mathlib.Core.List.{List, [], _∷_, _++_, append-nil, append-assoc}
-use lib.ListN.{length, getD, drop, replicate, take, length-append, length-replicate, getD-replicate, drop-of-length-le}
+use mathlib.Core.List.{List, [], _∷_, _++_, append-nil}
+use lib.ListN.{length, getD, length-append}
 use lib.Seq.{sets}
-use lib.Dec.{leb, eqb}
+use lib.Dec.{eqb}
 use borrow.Author.Tests.{ne-eqb}
 use Rattle.laws.specs.Sets.{sets-behind}
-use Rattle.laws.specs.Lists.{concat, span}
-use Rattle.geometry.specs.declared.Geometry.{Geometry}
-use Rattle.geometry.specs.Geometry.{InRange, inRange}
-use Rattle.geometry.specs.Places.{liveWord, storeWords, workWords}
+use Rattle.laws.specs.Lists.{concat}
 use Rattle.slot.specs.declared.Pair.{Pair}
-use Rattle.rules.specs.Tree.{Level, Tree, level}
-use Rattle.rules.specs.Merging.{entries, formatted}
-use Rattle.rules.specs.Store.{writing, emptyStore}
+use Rattle.rules.specs.Merging.{entries}
 use Rattle.rules.specs.Sound.{geometryOf, treeOf}
-use Rattle.good.specs.Format.{formatted-good}
-use Rattle.promises.specs.Written.{good-tree}
 use Rattle.index.specs.declared.Changed.{Changed}
 use Rattle.index.specs.declared.Asked.{Asked}
 use Rattle.index.specs.Ask.{askReply, askOf}
 use Rattle.index.specs.Edit.{Kept, editReply, editOf, putOf, dropOf}
-use Rattle.index.specs.Format.{formatOf, format-done}
 use Rattle.printing.specs.Decimal.{decimal, length-digit, digits-below}
 use Rattle.reading.specs.declared.Operation.{Operation}
 use Rattle.reading.specs.declared.Operation.the-variants.{Put, Drop, Ask}
 use Rattle.reading.specs.declared.Request.{Request}
-use Rattle.reading.specs.Lines.{linesOf}
-use Rattle.reading.specs.Sheet.{Judged, faulty, good, Sheet, joined, requestsFrom, judged}
-use Rattle.reading.specs.Told.{ahead, Requested, Ready}
 use Rattle.sheet_text.specs.declared.Tally.{Tally}
-use Rattle.sheet_text.specs.Text.{line, Made, changing, heldNumber, called, made, putName, dropName, askName, liveName, pagesName, headName, firstName, secondName, thirdName, levelLines, lastLines, ending, textFrom, firstStore, firstWork, judgedText, sheetOf, textRoom, printedIn}
-use Rattle.sheet_text.specs.Counts.{Left, edit-leaves, written-geometry}
-use Rattle.sheet_text.specs.Answers.{numberOf, pagesOf, countsAfter, heldBy, ask-told, Tells, tells, counts-stay}
+use Rattle.sheet_text.specs.Text.{line, Made, changing, heldNumber, called, made, putName, dropName, askName, liveName, pagesName, headName, firstName, secondName, thirdName, levelLines, lastLines}
+use Rattle.sheet_text.specs.Counts.{edit-leaves}
+use Rattle.sheet_text.specs.Answers.{numberOf, pagesOf, countsAfter, heldBy, ask-told, tells, counts-stay}
 
 -- Text that was put into a buffer from a place on: what stands there then, and the place behind it.
 pub record Printed (w : List ℕ) (at : ℕ) (text v : List ℕ) (end : ℕ) : Type 0 where
@@ -47,6 +36,10 @@ pub record Printed (w : List ℕ) (at : ℕ) (text v : List ℕ) (end : ℕ) : T
 pub record Within (w text v : List ℕ) (end : ℕ) : Type 0 where
   pub printed : Printed w 0 text v end
   pub fits : end ≤ length w
+
+-- Two results that one promise allows are equal.
+pub printed-once : {w : List ℕ} {at : ℕ} {text v u : List ℕ} {end last : ℕ} → Printed w at text v end → Printed w at text u last → (v ≡ u) × (end ≡ last)
+printed-once p q = (p .stands ∙ sym (q .stands), p .ends ∙ sym (q .ends))
 
 module _ (w : List ℕ) (at : ℕ) where
   pub printed-none : Printed w at [] w at

@@ -1,8 +1,8 @@
 -- The paper's section "The sheet program": what a sheet prints, made by the calls that it asks for. Assumes nothing.
 use Prim.Native.Nat.{ℕ, _+_}
-use mathlib.Core.Bool.{Bool, true, false, cond}
+use mathlib.Core.Bool.{true, false, cond}
 use mathlib.Core.List.{List, [], _∷_, _++_}
-use lib.ListN.{length, getD, take, replicate}
+use lib.ListN.{getD, take, replicate}
 use lib.Dec.{leb, eqb}
 use Rattle.laws.specs.Lists.{concat}
 use Rattle.geometry.specs.declared.Geometry.{Geometry}

@@ -1,3 +1,4 @@
+-- `begins` compares byte by byte: those left tell the rest. Assumes nothing.
 use Prim.Native.Nat.{_-_}
 use denote.Ref.{now}
 use lib.ListN.{length, length-drop}
@@ -7,8 +8,6 @@ use borrow.Author.Needs.{needs}
 use native.Mathlib.Omega.{arith}
 use Rattle.reading.proofs.begins.Statement.{statement}
 use Rattle.reading.proofs.begins.Tie as tie
-use Rattle.reading.proofs.begins.Reads as reads
-use Rattle.reading.proofs.begins.Lts as lts
 
 abbrev Inv-loop : tie.InvT-loop
 Inv-loop input at bytes j₀ j = Comparing input at bytes j
@@ -16,47 +15,36 @@ Inv-loop input at bytes j₀ j = Comparing input at bytes j
 abbrev μ-loop : tie.MeasureT-loop
 μ-loop input at bytes j₀ j = length bytes - j
 
--- src/lib.rt:249:8
 sub-if1 : tie.Need-sub-if1 Inv-loop μ-loop
 sub-if1 c = search needs
 
--- src/lib.rt:250:9
 returns : tie.Need-returns Inv-loop μ-loop
 returns c = sym (begins-short (now (c .before .args .bytes)) _ (omega (arith, length-drop (c .before .args .at) (now (c .before .args .input)))))
 
--- src/lib.rt:253:5
 loop-holds : tie.Need-loop-holds Inv-loop μ-loop
 loop-holds c = compare-begins (now (c .before .args .input)) (c .before .args .at) (now (c .before .args .bytes)) (omega arith)
 
--- src/lib.rt:254:18
 add-if2 : tie.Need-add-if2 Inv-loop μ-loop
 add-if2 c = search needs
 
--- src/lib.rt:254:12
 shared-slice-read-if2 : tie.Need-shared-slice-read-if2 Inv-loop μ-loop
 shared-slice-read-if2 c = search needs
 
--- src/lib.rt:254:29
 shared-slice-read-if2-2 : tie.Need-shared-slice-read-if2-2 Inv-loop μ-loop
 shared-slice-read-if2-2 c = search needs
 
--- src/lib.rt:255:13
 returns-2 : tie.Need-returns-2 Inv-loop μ-loop
 returns-2 c = compare-differs (now (c .before .before .before .before .before .before .args .input)) (c .before .before .before .before .before .before .args .at) (now (c .before .before .before .before .before .before .args .bytes)) (c .before .before .before .before .loop .j) (c .before .before .before .before .loop .inv) (omega arith) (c .if2 .taken)
 
--- src/lib.rt:257:9
 add-j : tie.Need-add-j Inv-loop μ-loop
 add-j c = search needs
 
--- src/lib.rt:253:5
 loop-less : tie.Need-loop-less Inv-loop μ-loop
 loop-less c = search needs
 
--- src/lib.rt:253:5
 loop-again : tie.Need-loop-again Inv-loop μ-loop
 loop-again c = compare-goes-on (now (c .before .before .before .before .before .before .args .input)) (c .before .before .before .before .before .before .args .at) (now (c .before .before .before .before .before .before .args .bytes)) (c .before .before .before .before .loop .j) (c .before .before .before .before .loop .inv) (omega arith) (c .if2 .left)
 
--- src/lib.rt:245:1
 returns-3 : tie.Need-returns-3 Inv-loop μ-loop
 returns-3 c = compare-ends (now (c .before .before .before .args .input)) (c .before .before .before .args .at) (now (c .before .before .before .args .bytes)) (c .before .loop .j) (c .before .loop .inv) (omega arith)
 

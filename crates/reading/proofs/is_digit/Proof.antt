@@ -1,18 +1,13 @@
+-- `is_digit` tells whether a byte is a digit: each way out by its test. Assumes nothing.
 use borrow.Author.Tests.{le-leb, lt-leb}
 use Rattle.geometry.specs.Geometry.{between}
-use borrow.Author.Needs.{needs}
-use native.Mathlib.Omega.{arith}
 use Rattle.reading.proofs.is_digit.Statement.{statement}
 use Rattle.reading.proofs.is_digit.Tie as tie
-use Rattle.reading.proofs.is_digit.Reads as reads
-use Rattle.reading.proofs.is_digit.Lts as lts
 
--- src/lib.rt:228:1
 returns : tie.Need-returns
 unfolding between
 returns c = rw (le-leb _ _ (c .if1 .taken))
 
--- src/lib.rt:228:1
 returns-2 : tie.Need-returns-2
 unfolding between
 returns-2 c = rw (lt-leb _ _ (c .if1 .left))

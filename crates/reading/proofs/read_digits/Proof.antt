@@ -1,18 +1,14 @@
+-- `read_digits` reads digits up to the line's end: the number so far and the rest of the line tell the number. Assumes nothing.
 use Rattle.reading.specs.Number.{digit-within}
 use Prim.Native.Nat.{_-_}
 use denote.Ref.{now}
 use lib.ListN.{length}
 use Rattle.laws.specs.Tests.{told-no, told-past}
-use Rattle.reading.specs.Number.{isDigit}
 use Rattle.reading.specs.Scan.{Counting, count-begins, count-unended, count-ends, count-stops, count-overflows, count-goes-on}
 use borrow.Author.Needs.{needs}
 use native.Mathlib.Omega.{arith}
 use Rattle.reading.proofs.read_digits.Statement.{statement}
 use Rattle.reading.proofs.read_digits.Tie as tie
-use Rattle.reading.proofs.read_digits.Reads as reads
-use Rattle.reading.proofs.read_digits.Lts as lts
-use Rattle.reading.proofs.is_digit.Reads as is-digit-reads
-use Rattle.reading.proofs.wide.Reads as wide-reads
 
 abbrev Inv-loop : tie.InvT-loop
 Inv-loop input from n₀ at₀ n at = Counting input from at n
@@ -20,67 +16,51 @@ Inv-loop input from n₀ at₀ n at = Counting input from at n
 abbrev μ-loop : tie.MeasureT-loop
 μ-loop input from n₀ at₀ n at = length input - at
 
--- src/lib.rt:211:5
 loop-holds : tie.Need-loop-holds Inv-loop μ-loop
 loop-holds c = count-begins (now (c .before .args .input)) (c .before .args .from)
 
--- src/lib.rt:212:20
 shared-slice-read-byte : tie.Need-shared-slice-read-byte Inv-loop μ-loop
 shared-slice-read-byte c = search needs
 
--- src/lib.rt:214:34
 cast-t10 : tie.Need-cast-t10 Inv-loop μ-loop
 cast-t10 c = search needs
 
--- src/lib.rt:214:44
 add-t11 : tie.Need-add-t11 Inv-loop μ-loop
 add-t11 c = search needs
 
--- src/lib.rt:214:13
 returns : tie.Need-returns Inv-loop μ-loop
 returns c = count-ends (now (c .before .before .before .before .before .args .input)) (c .before .before .before .before .before .args .from) (c .before .before .before .loop .at) (c .before .before .before .loop .n) (c .before .before .before .loop .inv) (omega arith) (c .if1 .taken)
 
--- src/lib.rt:216:13
 is-digit-requires : tie.Need-is-digit-requires Inv-loop μ-loop
 is-digit-requires c κs = search needs
 
--- src/lib.rt:217:13
 returns-2 : tie.Need-returns-2 Inv-loop μ-loop
 returns-2 c = count-stops (now (c .before .before .before .before .before .before .before .args .input)) (c .before .before .before .before .before .before .before .args .from) (c .before .before .before .before .before .loop .at) (c .before .before .before .before .before .loop .n) (c .before .before .before .before .before .loop .inv) (omega arith) (c .before .before .if1 .left) (told-no _ _ (c .before .is-digit .ensures) (c .if2 .taken))
 
--- src/lib.rt:219:13
 mul-n : tie.Need-mul-n Inv-loop μ-loop
 mul-n c = omega (arith, c .before .before .before .before .before .loop .inv .word)
 
--- src/lib.rt:219:27
 sub-wide : tie.Need-sub-wide Inv-loop μ-loop
 sub-wide c = omega (arith, digit-within _ (told-past _ _ (c .before .is-digit .ensures) (c .if2 .left)) .0)
 
--- src/lib.rt:219:22
 wide-requires : tie.Need-wide-requires Inv-loop μ-loop
 wide-requires c κs = search needs
 
--- src/lib.rt:219:13
 add-n : tie.Need-add-n Inv-loop μ-loop
 add-n c = omega (arith, c .before .before .before .before .before .before .loop .inv .word, c .wide .ensures, c .before .before .before .before .before .before .before .shared-slice-known .given (c .before .before .before .before .before .before .loop .at))
 
--- src/lib.rt:221:13
 returns-3 : tie.Need-returns-3 Inv-loop μ-loop
 returns-3 c = count-overflows (now (c .before .before .before .before .before .before .before .before .before .args .input)) (c .before .before .before .before .before .before .before .before .before .args .from) (c .before .before .before .before .before .before .before .loop .at) (c .before .before .before .before .before .before .before .loop .n) (c .before .before .before .before .before .before .before .loop .inv) (omega arith) (c .before .before .before .before .if1 .left) (told-past _ _ (c .before .before .before .is-digit .ensures) (c .before .before .if2 .left)) _ (c .before .wide .ensures) (c .if3 .taken)
 
--- src/lib.rt:223:9
 add-at : tie.Need-add-at Inv-loop μ-loop
 add-at c = search needs
 
--- src/lib.rt:211:5
 loop-less : tie.Need-loop-less Inv-loop μ-loop
 loop-less c = search needs
 
--- src/lib.rt:211:5
 loop-again : tie.Need-loop-again Inv-loop μ-loop
 loop-again c = count-goes-on (now (c .before .before .before .before .before .before .before .before .before .args .input)) (c .before .before .before .before .before .before .before .before .before .args .from) (c .before .before .before .before .before .before .before .loop .at) (c .before .before .before .before .before .before .before .loop .n) (c .before .before .before .before .before .before .before .loop .inv) (omega arith) (c .before .before .before .before .if1 .left) (told-past _ _ (c .before .before .before .is-digit .ensures) (c .before .before .if2 .left)) _ (c .before .wide .ensures) (c .if3 .left)
 
--- src/lib.rt:206:1
 returns-4 : tie.Need-returns-4 Inv-loop μ-loop
 returns-4 c = count-unended (now (c .before .before .before .args .input)) (c .before .before .before .args .from) (c .before .loop .at) (c .before .loop .n) (c .before .loop .inv) (omega arith)
 

@@ -1,71 +1,52 @@
+-- `read_group` tells a request from three lines, or the first of them that is faulty. Assumes nothing.
 use denote.Ref.{now}
 use Rattle.reading.specs.Values.{group-unnamed, group-badgeless, group-floorless, group-read}
-use native.Mathlib.Omega.{arith}
 use borrow.Author.Needs.{needs}
 use Rattle.reading.proofs.read_group.Statement.{statement}
 use Rattle.reading.proofs.read_group.Tie as tie
-use Rattle.reading.proofs.read_group.Reads as reads
-use Rattle.reading.proofs.read_group.Lts as lts
-use Rattle.reading.proofs.read_operation.Reads as read-operation-reads
-use Rattle.reading.proofs.read_value.Reads as read-value-reads
 
--- src/lib.rt:113:45
 read-operation-requires : tie.Need-read-operation-requires
 read-operation-requires c κs = search needs
 
--- src/lib.rt:113:22
 enum-known-operation : tie.Need-enum-known-operation
 enum-known-operation c = search needs
 
--- src/lib.rt:114:9
 enum-told : tie.Need-enum-told
 enum-told c = search needs
 
--- src/lib.rt:114:9
 returns : tie.Need-returns
 returns c = group-unnamed (now (c .before .before .before .before .args .input)) (c .before .before .before .before .args .at) (c .before .before .before .before .pre) (rw (c .enum-told .given .1) at (c .before .before .read-operation .ensures))
 
--- src/lib.rt:116:70
 slice-aggregate-read-value : tie.Need-slice-aggregate-read-value
 slice-aggregate-read-value c = search needs
 
--- src/lib.rt:116:42
 read-value-requires : tie.Need-read-value-requires
 read-value-requires c κs = ((rw (c .before .before .operation .given .1) at (c .before .before .before .before .read-operation .ensures)) .1 .within, search needs)
 
--- src/lib.rt:116:23
 enum-known-badge : tie.Need-enum-known-badge
 enum-known-badge c = search needs
 
--- src/lib.rt:117:9
 enum-told-2 : tie.Need-enum-told-2
 enum-told-2 c = search needs
 
--- src/lib.rt:117:9
 returns-2 : tie.Need-returns-2
 returns-2 c = group-badgeless (now (c .before .before .before .before .before .before .before .before .before .args .input)) (c .before .before .before .before .before .before .before .before .before .args .at) (c .before .before .before .before .before .before .before .before .before .pre) _ _ (rw (c .before .before .before .before .before .operation .given .1) at (c .before .before .before .before .before .before .before .read-operation .ensures)) (rw (c .enum-told2 .given .1) at (c .before .before .read-value .ensures))
 
--- src/lib.rt:119:66
 slice-aggregate-read-value-2 : tie.Need-slice-aggregate-read-value-2
 slice-aggregate-read-value-2 c = search needs
 
--- src/lib.rt:119:38
 read-value-requires-2 : tie.Need-read-value-requires-2
 read-value-requires-2 c κs = ((rw (c .before .before .badge .given .1) at (c .before .before .before .before .read-value .ensures)) .1 .within, search needs)
 
--- src/lib.rt:119:23
 enum-known-floor : tie.Need-enum-known-floor
 enum-known-floor c = search needs
 
--- src/lib.rt:120:9
 enum-told-3 : tie.Need-enum-told-3
 enum-told-3 c = search needs
 
--- src/lib.rt:120:9
 returns-3 : tie.Need-returns-3
 returns-3 c = group-floorless (now (c .before .before .before .before .before .before .before .before .before .before .before .before .before .before .args .input)) (c .before .before .before .before .before .before .before .before .before .before .before .before .before .before .args .at) (c .before .before .before .before .before .before .before .before .before .before .before .before .before .before .pre) _ _ (rw (c .before .before .before .before .before .before .before .before .before .before .operation .given .1) at (c .before .before .before .before .before .before .before .before .before .before .before .before .read-operation .ensures)) _ _ (rw (c .before .before .before .before .before .badge .given .1) at (c .before .before .before .before .before .before .before .read-value .ensures)) (rw (c .enum-told3 .given .1) at (c .before .before .read-value2 .ensures))
 
--- src/lib.rt:109:1
 returns-4 : tie.Need-returns-4
 returns-4 c = group-read (now (c .before .before .before .before .before .before .before .before .before .before .before .before .before .before .before .args .input)) (c .before .before .before .before .before .before .before .before .before .before .before .before .before .before .before .args .at) (c .before .before .before .before .before .before .before .before .before .before .before .before .before .before .before .pre) _ _ (rw (c .before .before .before .before .before .before .before .before .before .before .before .operation .given .1) at (c .before .before .before .before .before .before .before .before .before .before .before .before .before .read-operation .ensures)) _ _ (rw (c .before .before .before .before .before .before .badge .given .1) at (c .before .before .before .before .before .before .before .before .read-value .ensures)) _ _ (rw (c .before .floor .given .1) at (c .before .before .before .read-value2 .ensures))
 

@@ -1,3 +1,4 @@
+-- `read_number` tells the number that a line is: a zero alone, one behind a zero, none, or any other by its digits. Assumes nothing.
 use denote.Ref.{now}
 use mathlib.Core.Path.{sym, _∙_}
 use Rattle.reading.specs.Values.{read-zero, read-padded, read-empty, read-other}
@@ -5,56 +6,40 @@ use native.Mathlib.Omega.{arith}
 use borrow.Author.Needs.{needs}
 use Rattle.reading.proofs.read_number.Statement.{statement}
 use Rattle.reading.proofs.read_number.Tie as tie
-use Rattle.reading.proofs.read_number.Reads as reads
-use Rattle.reading.proofs.read_number.Lts as lts
-use Rattle.reading.proofs.begins.Reads as begins-reads
-use Rattle.reading.proofs.read_digits.Reads as read-digits-reads
 
--- src/lib.rt:197:26
 slice-aggregate-begins : tie.Need-slice-aggregate-begins
 slice-aggregate-begins c = search needs
 
--- src/lib.rt:197:8
 begins-requires : tie.Need-begins-requires
 begins-requires c κs = search needs
 
--- src/lib.rt:198:33
 add-t9 : tie.Need-add-t9
 add-t9 c = omega (arith, read-zero (now (c .before .before .before .before .args .input)) (c .before .before .before .before .args .at) (c .before .before .before .before .pre) (sym (c .if1 .taken) ∙ c .before .begins .ensures) .1 .within)
 
--- src/lib.rt:198:9
 returns : tie.Need-returns
 returns c = read-zero (now (c .before .before .before .before .args .input)) (c .before .before .before .before .args .at) (c .before .before .before .before .pre) (sym (c .if1 .taken) ∙ c .before .begins .ensures)
 
--- src/lib.rt:200:26
 slice-aggregate-begins-2 : tie.Need-slice-aggregate-begins-2
 slice-aggregate-begins-2 c = search needs
 
--- src/lib.rt:200:8
 begins-requires-2 : tie.Need-begins-requires-2
 begins-requires-2 c κs = search needs
 
--- src/lib.rt:201:9
 returns-2 : tie.Need-returns-2
 returns-2 c = read-padded (now (c .before .before .before .before .before .before .before .args .input)) (c .before .before .before .before .before .before .before .args .at) (c .before .before .before .before .before .before .before .pre) (sym (c .before .before .before .if1 .left) ∙ c .before .before .before .before .begins .ensures) (sym (c .if2 .taken) ∙ c .before .begins2 .ensures)
 
--- src/lib.rt:203:26
 slice-aggregate-begins-3 : tie.Need-slice-aggregate-begins-3
 slice-aggregate-begins-3 c = search needs
 
--- src/lib.rt:203:8
 begins-requires-3 : tie.Need-begins-requires-3
 begins-requires-3 c κs = search needs
 
--- src/lib.rt:204:9
 returns-3 : tie.Need-returns-3
 returns-3 c = read-empty (now (c .before .before .before .before .before .before .before .before .before .before .args .input)) (c .before .before .before .before .before .before .before .before .before .before .args .at) (c .before .before .before .before .before .before .before .before .before .before .pre) (sym (c .if3 .taken) ∙ c .before .begins3 .ensures)
 
--- src/lib.rt:206:5
 read-digits-requires : tie.Need-read-digits-requires
 read-digits-requires c κs = search needs
 
--- src/lib.rt:193:1
 returns-4 : tie.Need-returns-4
 returns-4 c = read-other (now (c .before .before .before .before .before .before .before .before .before .before .before .args .input)) (c .before .before .before .before .before .before .before .before .before .before .before .args .at) (c .before .before .before .before .before .before .before .before .before .before .before .pre) (sym (c .before .before .before .before .if2 .left) ∙ c .before .before .before .before .before .begins2 .ensures) (sym (c .before .if3 .left) ∙ c .before .before .begins3 .ensures) (c .read-digits .result) (c .read-digits .ensures)
 

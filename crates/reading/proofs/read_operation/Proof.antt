@@ -1,65 +1,48 @@
+-- `read_operation` tells the operation that a line names: each way out by the text that the bytes begin with. Assumes nothing.
 use denote.Ref.{now}
 use mathlib.Core.Path.{sym, _∙_}
-use lib.ListN.{drop, length-drop}
-use Rattle.reading.specs.Lines.{begins-long}
 use Rattle.reading.specs.Values.{named-put, named-drop, named-ask, named-none}
 use native.Mathlib.Omega.{arith}
 use borrow.Author.Needs.{needs}
 use Rattle.reading.proofs.read_operation.Statement.{statement}
 use Rattle.reading.proofs.read_operation.Tie as tie
-use Rattle.reading.proofs.read_operation.Reads as reads
-use Rattle.reading.proofs.read_operation.Lts as lts
-use Rattle.reading.proofs.begins.Reads as begins-reads
 
--- src/lib.rt:144:26
 slice-aggregate-begins : tie.Need-slice-aggregate-begins
 slice-aggregate-begins c = search needs
 
--- src/lib.rt:144:8
 begins-requires : tie.Need-begins-requires
 begins-requires c κs = search needs
 
--- src/lib.rt:145:45
 add-t10 : tie.Need-add-t10
 add-t10 c = omega (arith, named-put (now (c .before .before .before .before .args .input)) (c .before .before .before .before .args .at) (c .before .before .before .before .pre) (sym (c .if1 .taken) ∙ c .before .begins .ensures) .1 .within)
 
--- src/lib.rt:145:9
 returns : tie.Need-returns
 returns c = named-put (now (c .before .before .before .before .args .input)) (c .before .before .before .before .args .at) (c .before .before .before .before .pre) (sym (c .if1 .taken) ∙ c .before .begins .ensures)
 
--- src/lib.rt:147:26
 slice-aggregate-begins-2 : tie.Need-slice-aggregate-begins-2
 slice-aggregate-begins-2 c = search needs
 
--- src/lib.rt:147:8
 begins-requires-2 : tie.Need-begins-requires-2
 begins-requires-2 c κs = search needs
 
--- src/lib.rt:148:46
 add-t15 : tie.Need-add-t15
 add-t15 c = omega (arith, named-drop (now (c .before .before .before .before .before .before .before .args .input)) (c .before .before .before .before .before .before .before .args .at) (c .before .before .before .before .before .before .before .pre) (sym (c .before .before .before .if1 .left) ∙ c .before .before .before .before .begins .ensures) (sym (c .if2 .taken) ∙ c .before .begins2 .ensures) .1 .within)
 
--- src/lib.rt:148:9
 returns-2 : tie.Need-returns-2
 returns-2 c = named-drop (now (c .before .before .before .before .before .before .before .args .input)) (c .before .before .before .before .before .before .before .args .at) (c .before .before .before .before .before .before .before .pre) (sym (c .before .before .before .if1 .left) ∙ c .before .before .before .before .begins .ensures) (sym (c .if2 .taken) ∙ c .before .begins2 .ensures)
 
--- src/lib.rt:150:26
 slice-aggregate-begins-3 : tie.Need-slice-aggregate-begins-3
 slice-aggregate-begins-3 c = search needs
 
--- src/lib.rt:150:8
 begins-requires-3 : tie.Need-begins-requires-3
 begins-requires-3 c κs = search needs
 
--- src/lib.rt:151:45
 add-t20 : tie.Need-add-t20
 add-t20 c = omega (arith, named-ask (now (c .before .before .before .before .before .before .before .before .before .before .args .input)) (c .before .before .before .before .before .before .before .before .before .before .args .at) (c .before .before .before .before .before .before .before .before .before .before .pre) (sym (c .before .before .before .before .before .before .if1 .left) ∙ c .before .before .before .before .before .before .before .begins .ensures) (sym (c .before .before .before .if2 .left) ∙ c .before .before .before .before .begins2 .ensures) (sym (c .if3 .taken) ∙ c .before .begins3 .ensures) .1 .within)
 
--- src/lib.rt:151:9
 returns-3 : tie.Need-returns-3
 returns-3 c = named-ask (now (c .before .before .before .before .before .before .before .before .before .before .args .input)) (c .before .before .before .before .before .before .before .before .before .before .args .at) (c .before .before .before .before .before .before .before .before .before .before .pre) (sym (c .before .before .before .before .before .before .if1 .left) ∙ c .before .before .before .before .before .before .before .begins .ensures) (sym (c .before .before .before .if2 .left) ∙ c .before .before .before .before .begins2 .ensures) (sym (c .if3 .taken) ∙ c .before .begins3 .ensures)
 
--- src/lib.rt:140:1
 returns-4 : tie.Need-returns-4
 returns-4 c = named-none (now (c .before .before .before .before .before .before .before .before .before .before .args .input)) (c .before .before .before .before .before .before .before .before .before .before .args .at) (c .before .before .before .before .before .before .before .before .before .before .pre) (sym (c .before .before .before .before .before .before .if1 .left) ∙ c .before .before .before .before .before .before .before .begins .ensures) (sym (c .before .before .before .if2 .left) ∙ c .before .before .before .before .begins2 .ensures) (sym (c .if3 .left) ∙ c .before .begins3 .ensures)
 

@@ -1,3 +1,4 @@
+-- `read_value` tells the number behind a line's name. Assumes nothing.
 use denote.Ref.{now}
 use mathlib.Core.Path.{sym}
 use Rattle.laws.specs.Tests.{told-no, told-past}
@@ -6,28 +7,19 @@ use native.Mathlib.Omega.{arith}
 use borrow.Author.Needs.{needs}
 use Rattle.reading.proofs.read_value.Statement.{statement}
 use Rattle.reading.proofs.read_value.Tie as tie
-use Rattle.reading.proofs.read_value.Reads as reads
-use Rattle.reading.proofs.read_value.Lts as lts
-use Rattle.reading.proofs.begins.Reads as begins-reads
-use Rattle.reading.proofs.read_number.Reads as read-number-reads
 
--- src/lib.rt:186:9
 begins-requires : tie.Need-begins-requires
 begins-requires c κs = search needs
 
--- src/lib.rt:187:9
 returns : tie.Need-returns
 returns c = value-unnamed (now (c .before .before .before .before .args .input)) (c .before .before .before .before .args .at) (c .before .before .before .before .pre .0) (now (c .before .before .before .before .args .name)) (c .before .before .before .before .pre .1) (sym (told-no _ _ (c .before .begins .ensures) (c .if1 .taken)))
 
--- src/lib.rt:189:24
 add-read-number : tie.Need-add-read-number
 add-read-number c = omega (arith, name-within (now (c .before .before .before .before .args .input)) (c .before .before .before .before .args .at) (c .before .before .before .before .pre .0) (now (c .before .before .before .before .args .name)) (c .before .before .before .before .pre .1) (sym (told-past _ _ (c .before .begins .ensures) (c .if1 .left))))
 
--- src/lib.rt:189:5
 read-number-requires : tie.Need-read-number-requires
 read-number-requires c κs = name-within (now (c .before .before .before .before .args .input)) (c .before .before .before .before .args .at) (c .before .before .before .before .pre .0) (now (c .before .before .before .before .args .name)) (c .before .before .before .before .pre .1) (sym (told-past _ _ (c .before .begins .ensures) (c .if1 .left)))
 
--- src/lib.rt:181:1
 returns-2 : tie.Need-returns-2
 returns-2 c = value-named (now (c .before .before .before .before .before .args .input)) (c .before .before .before .before .before .args .at) (c .before .before .before .before .before .pre .0) (now (c .before .before .before .before .before .args .name)) (c .before .before .before .before .before .pre .1) (sym (told-past _ _ (c .before .before .begins .ensures) (c .before .if1 .left))) (c .read-number .result) (c .read-number .ensures)
 

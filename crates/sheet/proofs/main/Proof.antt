@@ -1,52 +1,38 @@
+-- `main` writes what `run_sheet` left at the start of the buffer. Assumes nothing.
 use mathlib.Core.Path.{sym}
 use lib.Seq.{length-take-le}
 use native.Mathlib.Omega.{arith}
 use borrow.Author.Needs.{needs}
 use Rattle.sheet.proofs.main.Statement.{statement}
 use Rattle.sheet.proofs.main.Tie as tie
-use Rattle.sheet.proofs.main.Reads as reads
-use Rattle.sheet.proofs.main.Lts as lts
-use Rattle.io.proofs.read_full.Reads as read-full-reads
-use Rattle.io.proofs.write_all.Reads as write-all-reads
-use Rattle.sheet_text.proofs.run_sheet.Reads as run-sheet-reads
 
--- src/main.rt:7:43
 slice-aggregate-read-full : tie.Need-slice-aggregate-read-full
 slice-aggregate-read-full c = search needs
 
--- src/main.rt:7:9
 read-full-requires : tie.Need-read-full-requires
 read-full-requires c κs = search needs
 
--- src/main.rt:9:40
 array-share-prefix-input : tie.Need-array-share-prefix-input
 array-share-prefix-input c = search needs
 
--- src/main.rt:9:40
 slice-aggregate-run-sheet : tie.Need-slice-aggregate-run-sheet
 slice-aggregate-run-sheet c = search needs
 
--- src/main.rt:9:55
 slice-aggregate-run-sheet-2 : tie.Need-slice-aggregate-run-sheet-2
 slice-aggregate-run-sheet-2 c = search needs
 
--- src/main.rt:9:9
 run-sheet-requires : tie.Need-run-sheet-requires
 run-sheet-requires c κs = search needs
 
--- src/main.rt:10:34
 array-share-prefix-out : tie.Need-array-share-prefix-out
 array-share-prefix-out c = search needs
 
--- src/main.rt:10:34
 slice-aggregate-write-all : tie.Need-slice-aggregate-write-all
 slice-aggregate-write-all c = sym (length-take-le (c .before .before .run-sheet .result) (c .before .before .run-sheet .last .1 .0) (omega (arith, c .before .before .run-sheet .ensures .1)))
 
--- src/main.rt:10:5
 write-all-requires : tie.Need-write-all-requires
 write-all-requires c κs = search needs
 
--- src/main.rt:5:1
 returns : tie.Need-returns
 returns c = search needs
 

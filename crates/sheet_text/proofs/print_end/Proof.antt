@@ -1,4 +1,4 @@
-use lib.ListN.{getD}
+-- `print_end` puts the live pairs, the levels and the pages, one behind the other. Assumes nothing.
 use denote.Ref.{now}
 use Rattle.sheet_text.specs.Text.{liveName, pagesName}
 use Rattle.sheet_text.specs.Printed.{line-short, last-printed}
@@ -6,36 +6,25 @@ use native.Mathlib.Omega.{arith}
 use borrow.Author.Needs.{needs}
 use Rattle.sheet_text.proofs.print_end.Statement.{statement}
 use Rattle.sheet_text.proofs.print_end.Tie as tie
-use Rattle.sheet_text.proofs.print_end.Reads as reads
-use Rattle.sheet_text.proofs.print_end.Lts as lts
-use Rattle.sheet_text.proofs.print_levels.Reads as print-levels-reads
-use Rattle.sheet_text.proofs.print_line.Reads as print-line-reads
 
--- src/lib.rt:215:47
 slice-aggregate-print-line : tie.Need-slice-aggregate-print-line
 slice-aggregate-print-line c = search needs
 
--- src/lib.rt:215:9
 print-line-requires : tie.Need-print-line-requires
 print-line-requires c κs = omega (arith, c .before .before .before .before .pre .1 .0, line-short liveName (c .before .before .before .before .args .live) (omega arith))
 
--- src/lib.rt:216:9
 print-levels-requires : tie.Need-print-levels-requires
 print-levels-requires c κs = (c .before .before .before .before .before .before .before .before .pre .0, omega (arith, c .before .before .before .before .before .before .before .before .pre .1 .0, c .before .before .before .print-line .ensures .ends, line-short liveName (c .before .before .before .before .before .before .before .before .args .live) (omega arith)))
 
--- src/lib.rt:217:29
 slice-aggregate-print-line-2 : tie.Need-slice-aggregate-print-line-2
 slice-aggregate-print-line-2 c = search needs
 
--- src/lib.rt:217:5
 print-line-requires-2 : tie.Need-print-line-requires-2
 print-line-requires-2 c κs = omega (arith, c .before .before .before .before .before .before .before .before .before .before .before .before .before .pre .1 .0, c .before .before .before .before .before .before .before .before .print-line .ensures .ends, c .before .before .before .before .print-levels .ensures .1, line-short liveName (c .before .before .before .before .before .before .before .before .before .before .before .before .before .args .live) (omega arith), line-short pagesName (c .before .before .before .before .before .before .before .before .before .before .before .before .before .args .tally .pages) (omega (arith, c .before .before .before .before .before .before .before .before .before .before .before .before .before .pre .1 .1)))
 
--- src/lib.rt:208:1
 same-length : tie.Need-same-length
 same-length c = search needs
 
--- src/lib.rt:208:1
 returns : tie.Need-returns
 returns c = (last-printed (now (c .before .before .before .before .before .before .before .before .before .before .before .before .before .before .before .before .args .out)) (c .before .before .before .before .before .before .before .before .before .before .before .before .before .before .before .before .args .tally .length) (c .before .before .before .before .before .before .before .before .before .before .before .before .before .before .before .before .args .g .levels) (c .before .before .before .before .before .before .before .before .before .before .before .before .before .before .before .before .args .live) (c .before .before .before .before .before .before .before .before .before .before .before .before .before .before .before .before .args .tally .entries) (c .before .before .before .before .before .before .before .before .before .before .before .before .before .before .before .before .args .tally .pages) (c .before .before .before .before .before .before .before .before .before .before .before .print-line .ensures) (c .before .before .before .before .before .before .before .print-levels .ensures .0) (c .before .before .print-line2 .ensures), omega (arith, c .before .before .before .before .before .before .before .before .before .before .before .before .before .before .before .before .pre .1 .0, c .before .before .before .before .before .before .before .before .before .before .before .print-line .ensures .ends, c .before .before .before .before .before .before .before .print-levels .ensures .1, c .before .before .print-line2 .ensures .ends, line-short liveName (c .before .before .before .before .before .before .before .before .before .before .before .before .before .before .before .before .args .live) (omega arith), line-short pagesName (c .before .before .before .before .before .before .before .before .before .before .before .before .before .before .before .before .args .tally .pages) (omega (arith, c .before .before .before .before .before .before .before .before .before .before .before .before .before .before .before .before .pre .1 .1))))
 

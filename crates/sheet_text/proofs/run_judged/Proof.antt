@@ -1,68 +1,49 @@
-use denote.Ref.{now}
+-- `run_judged` lends words that hold zeros, as many as the geometry wants. Assumes nothing.
 use Rattle.sheet_text.specs.Begun.{store-fits, work-fits, store-zeros, work-zeros, zeros-long}
 use native.Mathlib.Omega.{arith}
 use borrow.Author.Needs.{needs}
 use Rattle.sheet_text.proofs.run_judged.Statement.{statement}
 use Rattle.sheet_text.proofs.run_judged.Tie as tie
-use Rattle.sheet_text.proofs.run_judged.Reads as reads
-use Rattle.sheet_text.proofs.run_judged.Lts as lts
-use Rattle.geometry.proofs.plan_for.Reads as plan-for-reads
-use Rattle.sheet_text.proofs.run_on.Reads as run-on-reads
-use Rattle.sheet_text.proofs.zeros.Reads as zeros-reads
 
--- src/lib.rt:49:9
 plan-for-requires : tie.Need-plan-for-requires
 plan-for-requires c κs = c .before .before .pre .0 .in-range
 
--- src/lib.rt:50:23
 cast-store-words : tie.Need-cast-store-words
 cast-store-words c = search needs
 
--- src/lib.rt:51:22
 cast-work-words : tie.Need-cast-work-words
 cast-work-words c = search needs
 
--- src/lib.rt:52:21
 zeros-requires : tie.Need-zeros-requires
 zeros-requires c κs = search needs
 
--- src/lib.rt:53:20
 zeros-requires-2 : tie.Need-zeros-requires-2
 zeros-requires-2 c κs = search needs
 
--- src/lib.rt:58:9
 sub-run-on : tie.Need-sub-run-on
 sub-run-on c = search needs
 
--- src/lib.rt:58:9
 part-store-start : tie.Need-part-store-start
 part-store-start c = search needs
 
--- src/lib.rt:58:9
 part-store-end : tie.Need-part-store-end
 part-store-end c = omega (arith, store-fits (c .before .before .before .before .before .before .before .args .g) (c .before .before .before .before .plan-for .result) (c .before .before .before .before .plan-for .ensures .0) (c .before .before .before .before .before .before .before .pre .0 .short), zeros-long _ (c .before .zeros .ensures))
 
--- src/lib.rt:59:9
 sub-run-on-2 : tie.Need-sub-run-on-2
 sub-run-on-2 c = search needs
 
--- src/lib.rt:59:9
 part-work-start : tie.Need-part-work-start
 part-work-start c = search needs
 
--- src/lib.rt:59:9
 part-work-end : tie.Need-part-work-end
 part-work-end c = omega (arith, work-fits (c .before .before .before .before .before .before .before .before .args .g) (c .before .before .before .before .before .plan-for .result) (c .before .before .before .before .before .plan-for .ensures .0) (c .before .before .before .before .before .before .before .before .pre .0 .short), zeros-long _ (c .before .zeros2 .ensures))
 
--- src/lib.rt:54:5
 run-on-requires : tie.Need-run-on-requires
 run-on-requires c κs = (c .before .before .before .before .before .before .before .before .before .before .pre .0, (store-zeros (c .before .before .before .before .before .before .before .before .before .before .args .g) (c .before .before .before .before .before .before .before .plan-for .result) (c .before .before .before .before .before .before .before .plan-for .ensures .0) (c .before .before .before .before .before .before .before .before .before .before .pre .0 .short) _ (c .before .before .before .before .zeros .ensures), (work-zeros (c .before .before .before .before .before .before .before .before .before .before .args .g) (c .before .before .before .before .before .before .before .plan-for .result) (c .before .before .before .before .before .before .before .plan-for .ensures .0) (c .before .before .before .before .before .before .before .before .before .before .pre .0 .short) _ (c .before .before .before .zeros2 .ensures), c .before .before .before .before .before .before .before .before .before .before .pre .1)))
 
--- src/lib.rt:44:1
 same-length : tie.Need-same-length
 same-length c = search needs
 
--- src/lib.rt:44:1
 returns : tie.Need-returns
 returns c = c .before .before .before .before .run-on .ensures
 
