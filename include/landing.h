@@ -68,11 +68,11 @@
  *
  * STACK. Measured, not proved, for x86-64 as `rt staticlib landing` builds it, in bytes below the caller's frame:
  *
- *     landing_put, landing_drop   2980     in a merge from level 0 down to level 3; without one less than half of it
- *     landing_list                1652
- *     landing_check               1204
- *     landing_ask                  549
- *     landing_format               136
+ *     landing_put, landing_drop   3008     in a merge from level 0 down to level 3; without one less than half of it
+ *     landing_list                1672
+ *     landing_check               1256
+ *     landing_ask                  528
+ *     landing_format               152
  */
 #ifndef LANDING_H
 #define LANDING_H
