@@ -1,5 +1,5 @@
 -- What an accepted put or drop comes to, on words: the store, the work area and the numbers told. Assumes nothing.
-use Prim.Native.Nat.{ℕ, suc, _+_, _-_}
+use Prim.Native.Nat.{ℕ, suc, _-_}
 use mathlib.Core.Path.{_≡_, refl}
 use mathlib.Core.Bool.{Bool, true, false, not, cond, _&&_}
 use mathlib.Core.List.{List, [], _∷_}
@@ -12,16 +12,12 @@ use Rattle.rules.specs.Merging.{edit, entries}
 use Rattle.rules.specs.Store.{writing}
 use Rattle.rules.specs.Sound.{headSlots, entriesOf, treeOf, Fault, sound, faultAt, fault}
 use Rattle.edit.specs.Head.{entryAdded, entryRemoved}
+use Rattle.good.specs.Edit.{liveAfter}
 use Rattle.edited.specs.Reach.{reach}
 use Rattle.change.specs.declared.Report.{Report}
 use Rattle.change.specs.declared.Outcome.{Outcome}
 use Rattle.change.specs.declared.Outcome.the-variants.{Done}
 use Rattle.change.specs.declared.Outcome.the-variants.{Fault as Faulty}
-
--- The live pairs after a put (a normal entry), and after a drop.
-unfoldable pub liveAfter : Bool → ℕ → ℕ
-liveAfter true n = n + 1
-liveAfter false n = n - 1
 
 -- The head edited behind its first slots, so many: the last of them goes where it is the pair's own entry, else the entry comes behind them.
 -- Live goes with it.

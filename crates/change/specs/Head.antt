@@ -37,9 +37,10 @@ use Rattle.entries.specs.Levels.{PagesWithin}
 use Rattle.entries.specs.Ready.{pages-within}
 use Rattle.stored.specs.Fitting.{WordsFit}
 use Rattle.edit.specs.Head.{slotIn, slotOut, entryAdded, entryRemoved}
+use Rattle.good.specs.Edit.{liveAfter}
 use Rattle.edited.specs.Reach.{reach, reach-within}
 use Rattle.change.specs.declared.Report.{Report}
-use Rattle.change.specs.Change.{liveAfter, toggledBehind, editedBehind, headEdited, fillsHead, changedHead, changeOf, told, doneOn, change-edits}
+use Rattle.change.specs.Change.{toggledBehind, editedBehind, headEdited, fillsHead, changedHead, changeOf, told, doneOn, change-edits}
 
 -- One more live pair for a normal entry, one less for a filter: the number stays a word.
 pub record LiveMoves (normal : Bool) (live : ℕ) : Type 0 where

@@ -6,45 +6,44 @@ use native.Mathlib.Omega.{arith}
 use mathlib.Core.Path.{_≡_, refl, sym, ap, _∙_}
 use mathlib.Core.Logic.{_≢_}
 use mathlib.Core.Bool.{Bool, true, false, not}
-use mathlib.Core.List.{List, [], _∷_, append-nil}
-use lib.ListN.{length, getD, set, replicate, length-replicate}
+use mathlib.Core.List.{List, append-nil}
+use lib.ListN.{length, replicate, length-replicate}
 use lib.Seq.{sets, sets-eq, drop-length}
 use lib.Dec.{leb, eqb}
-use borrow.Author.Tests.{eqb-false, not-true}
+use borrow.Author.Tests.{eqb-false, ne-eqb, not-true}
 use Rattle.laws.specs.Tests.{and-left}
 use Rattle.geometry.specs.declared.Geometry.{Geometry}
 use Rattle.geometry.specs.declared.Plan.{Plan}
 use Rattle.geometry.specs.Geometry.{InRange, bottom}
-use Rattle.geometry.specs.Places.{liveWord, erased, headRoom}
+use Rattle.geometry.specs.Places.{erased}
 use Rattle.geometry.specs.Lent.{Lent, lent}
 use Rattle.slot.specs.declared.Pair.{Pair}
 use Rattle.slot.specs.Pair.{Words}
-use Rattle.rules.specs.Tree.{Entry, Tree, level}
+use Rattle.rules.specs.Tree.{Entry, Tree}
 use Rattle.rules.specs.Level.{slotsOf}
-use Rattle.rules.specs.Finding.{Met, absent, met, find, held}
-use Rattle.rules.specs.Merging.{State, toggleHead, edit}
+use Rattle.rules.specs.Finding.{held}
+use Rattle.rules.specs.Merging.{State, edit}
 use Rattle.rules.specs.Store.{writing}
 use Rattle.rules.specs.Sound.{headSlots, entriesOf, sound, fault}
 use Rattle.rules.specs.Good.{Good, Cascading}
 use Rattle.walk.specs.declared.Walked.the-variants.{Found}
 use Rattle.walk.specs.Walk.{walked}
 use Rattle.entries.specs.Levels.{PagesWithin}
-use Rattle.edit.specs.Head.{entryAdded}
 use Rattle.stored.specs.Fitting.{WordsFit}
 use Rattle.stored.specs.Back.{stateOf}
-use Rattle.finding.specs.Asked.{decider, head-decides}
-use Rattle.good.specs.Edit.{entry, put-cascading, drop-cascading}
+use Rattle.finding.specs.Asked.{decider}
+use Rattle.good.specs.Edit.{entry, toggledState, change-cascading}
 use Rattle.good.specs.Settle.{settledState, settle-good}
 use Rattle.edited.specs.Reach.{reach}
-use Rattle.edited.specs.Written.{added-written}
 use Rattle.merge.specs.Filling.{Outcome, outcome, settled, Settleable}
 use Rattle.merge.specs.Laid.{within-laid}
 use Rattle.merge.specs.Settled.{Settles, settledTo, settles}
 use Rattle.good.specs.Cascade.{good-fits}
 use Rattle.promises.specs.Written.{sound-good, good-reads, good-walks}
 use Rattle.change.specs.declared.Report.{Report}
-use Rattle.change.specs.Change.{liveAfter, toggledBehind, editedBehind, headEdited, fillsHead, Changed, changedTree, mergedChange, told, doneOn, merge-goes-on}
-use Rattle.change.specs.Head.{Accepted, accepted-directory, accepted-head, accepted-editable, head-has-room, added-fits, edited-lent}
+use Rattle.change.specs.Change.{editedBehind, headEdited, fillsHead, Changed, changedTree, mergedChange, told, doneOn, merge-goes-on}
+use Rattle.change.specs.Head.{Accepted, accepted-editable, added-fits, edited-lent}
+use Rattle.change.specs.Toggled.{head-toggled}
 
 -- What settling the head leaves, in words: told of the store as it stands then, and with the work area unused.
 unfoldable pub settledChange : Geometry → List ℕ → List ℕ → Changed
@@ -130,42 +129,19 @@ module _ (g : Geometry) (plan : Plan) (w v : List ℕ) (p : Pair) (normal : Bool
   level-told : decider p t ≡ anew .level
   level-told = let z : Found (held p t) (decider p t) ≡ Found (not normal) (anew .level) = walk-told in cc
 
-  head-absent : find p (level 0 t) ≡ absent
-  head-absent = by-entry (find p (level 0 t)) refl
-    where
-      by-entry : (m : Met) → find p (level 0 t) ≡ m → m ≡ absent
-      by-entry absent h = refl
-      by-entry (met b) h = absurd (omega (arith, anew .below, level-told, head-decides p t b h))
-
   -- So the edited store is the writing of the state with its head toggled, from where a cascade may begin.
-  abbrev live : ℕ
-  live = liveAfter normal (s .live)
-
   abbrev begun : State
-  begun = record { live = live; tree = toggleHead e t }
+  begun = toggledState e s
 
-  edited-written : headEdited g e false w ≡ writing g begun
-  unfolding headEdited editedBehind toggledBehind stateOf
-  edited-written =
-      ap (λ (v : List ℕ). set (entryAdded e (reach p (headSlots g v)) v) liveWord live) (written-good .0) ∙
-      added-written g s e live fit (good-fits g fit s good) (good .ascends) head-absent roomy
-    where
-      roomy : suc (length (getD (slotsOf t) 0 [])) ≤ headRoom g
-      roomy =
-          let found = anew .accepted in
-          omega (
-            arith,
-            head-has-room g w fit (accepted-directory g plan w e (anew .level) lends found) (accepted-head g plan w e (anew .level) lends found),
-            ap length (ap (headSlots g) (written-good .0) ∙ good-reads g s fit good .head-slots),
-          )
+  begins : v ≡ writing g begun
+  unfolding headEdited
+  begins =
+      let other : eqb (decider p t) 0 ≡ false = ne-eqb (decider p t) 0 (λ q. omega (arith, q, level-told, anew .below)) in
+      edits ∙ ap (λ (r : ℕ). editedBehind e r false w) reached ∙ ap (headEdited g e false) (written-good .0) ∙ rw other at (head-toggled g fit s good e)
 
   cascades : Cascading g 0 begun
-  unfolding liveAfter stateOf
-  cascades = by-kind normal refl
-    where
-      by-kind : (b : Bool) → normal ≡ b → Cascading g 0 (record { live = liveAfter normal (s .live); tree = toggleHead (entry p normal) t })
-      by-kind true k = rw k (put-cascading g fit p s good pair (pair-held ∙ ap not k) (anew .accepted .room k))
-      by-kind false k = rw k (drop-cascading g fit p s good pair (pair-held ∙ ap not k))
+  unfolding stateOf
+  cascades = change-cascading g fit p normal s good pair pair-held (anew .accepted .room)
 
   -- The head is settled as the rules say, to the writing of a good state.
   abbrev ended : State
@@ -177,16 +153,12 @@ module _ (g : Geometry) (plan : Plan) (w v : List ℕ) (p : Pair) (normal : Bool
   head-settles : Settles g (bottom g) 0 begun
   head-settles = settles g fit (bottom g) 0 begun cascades (omega arith)
 
-  begins : v ≡ writing g begun
-  unfolding headEdited
-  begins = edits ∙ ap (λ (r : ℕ). editedBehind e r false w) reached ∙ edited-written
-
   pub anew-ready : Lent g plan v × Settling g v
   unfolding settledTo writing
   anew-ready = (
     edited-lent g plan w e (anew .level) lends (anew .accepted) behind false v edits,
     rw begins
-        (record { asked = head-settles .asked; within = rw (head-settles .told) (within-laid g live fit (slotsOf (ended .tree)) (good-fits g fit ended ended-good)) }),
+        (record { asked = head-settles .asked; within = rw (head-settles .told) (within-laid g (begun .live) fit (slotsOf (ended .tree)) (good-fits g fit ended ended-good)) }),
   )
 
   pub anew-settled : (work : List ℕ) → settledChange g v work ≡ mergedChange g e w work

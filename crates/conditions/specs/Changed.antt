@@ -7,32 +7,28 @@ use mathlib.Core.Bool.{Bool, true, false, not}
 use mathlib.Core.List.{List, [], _∷_}
 use lib.ListN.{length, getD, replicate}
 use lib.Dec.{ltb, leb, eqb}
-use borrow.Author.Tests.{eq-eqb, ne-eqb, lt-ltb, le-ltb, ltb-true, leb-true, leb-false}
-use Rattle.laws.specs.Lists.{all, all-at}
+use borrow.Author.Tests.{eq-eqb, ne-eqb, lt-ltb, le-ltb, leb-true, leb-false}
+use Rattle.laws.specs.Lists.{all-at}
 use Rattle.geometry.specs.declared.Geometry.{Geometry}
 use Rattle.geometry.specs.Geometry.{InRange, bottom, capacity, most}
-use Rattle.geometry.specs.Places.{liveWord, erased, headRoom}
+use Rattle.geometry.specs.Places.{liveWord, erased}
 use Rattle.geometry.specs.Bounds.{capacity-zero}
 use Rattle.slot.specs.declared.Pair.{Pair}
 use Rattle.slot.specs.Pair.{Words}
 use Rattle.rules.specs.Tree.{Entry, Level, Tree, level}
-use Rattle.rules.specs.Level.{slotsOf}
 use Rattle.rules.specs.Finding.{Met, absent, met, find, held}
 use Rattle.rules.specs.Merging.{State, Settled, toggle, toggleHead, edit, entries}
 use Rattle.rules.specs.Store.{writing}
 use Rattle.rules.specs.Sound.{headSlots, entriesOf, treeOf, ascending, sound}
-use Rattle.rules.specs.Good.{Good, Cascading}
+use Rattle.rules.specs.Good.{Good}
 use Rattle.entries.specs.Ascending.{from-ascending}
 use Rattle.finding.specs.Asked.{decider, head-decides, below-decides}
-use Rattle.finding.specs.Formed.{directory-right, head-right}
-use Rattle.good.specs.Edit.{entry, put-cascading, drop-cascading}
+use Rattle.good.specs.Edit.{entry, liveAfter, toggledState, change-cascading}
 use Rattle.good.specs.Settle.{settle-good}
-use Rattle.good.specs.Within.{within-upper}
-use Rattle.edited.specs.Written.{added-written, removed-written}
-use Rattle.good.specs.Cascade.{good-fits}
+use Rattle.good.specs.Within.{head-few}
 use Rattle.promises.specs.Written.{good-reads, good-tree, good-sound}
-use Rattle.change.specs.Change.{liveAfter, toggledBehind, editedBehind, headEdited, fillsHead, Changed, changedHead, changedTree, changeOf, change-merges, change-edits, merge-goes-on}
-use Rattle.change.specs.Head.{head-has-room}
+use Rattle.change.specs.Change.{fillsHead, Changed, changedHead, changedTree, changeOf, change-merges, change-edits, merge-goes-on}
+use Rattle.change.specs.Toggled.{head-toggled}
 use Rattle.conditions.specs.Settled.{toggle-adds, toggle-takes, head-stays, head-merges}
 
 -- The work area after a call: all ones where it merged, else as it was.
@@ -75,7 +71,7 @@ module _ (g : Geometry) (fit : InRange g) (s : State) (good : Good g s) (p : Pai
   live = liveAfter normal (s .live)
 
   abbrev begun : State
-  begun = record { live = live; tree = toggleHead e t }
+  begun = toggledState e s
 
   abbrev ended : State
   ended = record { live = live; tree = (edit g e t) .tree }
@@ -83,17 +79,9 @@ module _ (g : Geometry) (fit : InRange g) (s : State) (good : Good g s) (p : Pai
   abbrev own : Bool
   own = eqb (decider p t) 0
 
-  pub change-cascades : Cascading g 0 begun
-  unfolding liveAfter
-  change-cascades = by-kind normal refl
-    where
-      by-kind : (b : Bool) → normal ≡ b → Cascading g 0 (record { live = liveAfter normal (s .live); tree = toggleHead (entry p normal) t })
-      by-kind true k = rw k (put-cascading g fit p s good pair (h ∙ ap not k) (room k))
-      by-kind false k = rw k (drop-cascading g fit p s good pair (h ∙ ap not k))
-
   ended-good : Good g ended
   unfolding edit
-  ended-good = settle-good g fit (bottom g) 0 begun change-cascades (omega arith)
+  ended-good = settle-good g fit (bottom g) 0 begun (change-cascading g fit p normal s good pair h room) (omega arith)
 
   some-levels : 1 ≤ length t
   some-levels = omega (arith, good .levels, fit .levels-least)
@@ -105,11 +93,6 @@ module _ (g : Geometry) (fit : InRange g) (s : State) (good : Good g s) (p : Pai
 
   live-read : getD w liveWord 0 ≡ s .live
   live-read = good-reads g s fit good .live-pairs
-
-  few : length (level 0 t) < capacity g 0
-  few =
-      ltb-true (length (level 0 t)) (capacity g 0)
-      (sym (within-upper g 0 (length (level 0 t)) (omega (arith, fit .levels-least))) ∙ good .within 0 (omega (arith, fit .levels-least)))
 
   grown : find p (level 0 t) ≡ absent → length (level 0 (toggleHead e t)) ≡ suc (length (level 0 t))
   grown f = ap length (toggled-head e t some-levels) ∙ toggle-adds e (level 0 t) f
@@ -133,24 +116,9 @@ module _ (g : Geometry) (fit : InRange g) (s : State) (good : Good g s) (p : Pai
     begun-good : Good g begun
     begun-good = rw edited-stays at ended-good
 
-    edited : (work : List ℕ) (b : Bool) → headEdited g e b w ≡ writing g begun → changedHead g e b w work ≡ ruledChange g live (edit g e t) work
+    edited : (work : List ℕ) → changedHead g e own w work ≡ ruledChange g live (edit g e t) work
     unfolding changedHead ruledChange workAfter
-    edited work b v = rw (live-read, v, edited-stays, good-tree g begun fit begun-good) refl
-
-  added : find p (level 0 t) ≡ absent → headEdited g e false w ≡ writing g begun
-  unfolding headEdited editedBehind toggledBehind
-  added f = rw live-read (added-written g s e live fit (good-fits g fit s good) (good .ascends) f roomy)
-    where
-      roomy : suc (length (getD (slotsOf t) 0 [])) ≤ headRoom g
-      roomy =
-          let fits = good-fits g fit s good in
-          let reads = good-reads g s fit good in
-          let right = directory-right g s w fit good fits reads in
-          omega (arith, head-has-room g w fit right (head-right g s w fit good fits reads), ap length (reads .head-slots))
-
-  removed : (b : Bool) → find p (level 0 t) ≡ met b → headEdited g e true w ≡ writing g begun
-  unfolding headEdited editedBehind toggledBehind
-  removed b f = rw live-read (removed-written g s e live fit (good-fits g fit s good) (good .ascends) b f)
+    edited work = rw (live-read, head-toggled g fit s good e, edited-stays, good-tree g begun fit begun-good) refl
 
   -- So in either case.
   pub change-written : (work : List ℕ) → changeOf g e own w work ≡ ruledChange g live (edit g e t) work
@@ -168,7 +136,7 @@ module _ (g : Geometry) (fit : InRange g) (s : State) (good : Good g s) (p : Pai
       by-count false c f o =
           let less : suc (length (level 0 t)) < g .head = leb-false (g .head) (suc (length (level 0 t))) c in
           sym (change-edits g e w work own (rw (o, head-read, c) refl)) ∙
-          edited (shorter (omega (arith, grown f, less, capacity-zero g))) work own (rw o (added f))
+          edited (shorter (omega (arith, grown f, less, capacity-zero g))) work
 
       by-entry : (m : Met) → find p (level 0 t) ≡ m → changeOf g e own w work ≡ ruledChange g live (edit g e t) work
       by-entry absent f =
@@ -178,4 +146,4 @@ module _ (g : Geometry) (fit : InRange g) (s : State) (good : Good g s) (p : Pai
           let rises = from-ascending (level 0 t) (all-at ascending t 0 [] (good .ascends) some-levels) in
           let lost : suc (length (level 0 (toggleHead e t))) ≡ length (level 0 t) =
           ap (λ (l : Level). suc (length l)) (toggled-head e t some-levels) ∙ toggle-takes e 0 (level 0 t) b rises f in
-          sym (change-edits g e w work own (rw o refl)) ∙ edited (shorter (omega (arith, lost, few))) work own (rw o (removed b f))
+          sym (change-edits g e w work own (rw o refl)) ∙ edited (shorter (omega (arith, lost, head-few g fit s good))) work

@@ -20,11 +20,11 @@ use Rattle.rules.specs.Good.{Good}
 use Rattle.rules.specs.Requests.{Request, putting, dropping, step, pairIn}
 use Rattle.walk.specs.Walk.{walked}
 use Rattle.finding.specs.Asked.{decider}
-use Rattle.good.specs.Edit.{entry, held-live}
+use Rattle.good.specs.Edit.{entry, liveAfter, held-live}
 use Rattle.good.specs.Calls.{put-held as put-of-held, put-full as put-of-full, put-done, remove-missing, remove-done}
 use Rattle.promises.specs.Calls.{ComesTo, refusal, edited}
 use Rattle.promises.specs.Written.{good-reads, good-geometry, good-walks}
-use Rattle.change.specs.Change.{liveAfter, changeOf}
+use Rattle.change.specs.Change.{changeOf}
 use Rattle.index.specs.Edit.{Kept, kept, zeros, changedReply, putFound, dropFound, foundOf, editOf, edit-walked, put-held, put-full, put-changes, drop-missing, drop-changes, openingBoth, both-pass}
 use Rattle.conditions.specs.Calls.{changeOn}
 use Rattle.conditions.specs.Changed.{workAfter, ruledChange, change-written}

@@ -1,4 +1,4 @@
--- An edit of the head in the writing of a state, with another number of live pairs, is the writing of the state whose head is toggled.
+-- An edit of the head in the writing of a good state, with another number of live pairs, is the writing of the state whose head is toggled.
 -- Assumes nothing.
 use Prim.Native.Nat.{ℕ, suc, _+_, _-_, _*_, _≤_, _<_}
 use native.Mathlib.Omega.{arith}
@@ -19,7 +19,7 @@ use Rattle.rules.specs.Finding.{absent, met, find}
 use Rattle.rules.specs.Merging.{State, toggle, toggleHead}
 use Rattle.rules.specs.Store.{laidOut, writing}
 use Rattle.rules.specs.Sound.{headSlots, inOrder, ascending}
-use Rattle.rules.specs.Good.{Fits}
+use Rattle.rules.specs.Good.{Good, Fits}
 use Rattle.edit.specs.Head.{entryAdded, entryRemoved}
 use Rattle.stored.specs.Parts.{Parts, laid-parts}
 use Rattle.stored.specs.Reading.{reads-back}
@@ -28,6 +28,9 @@ use Rattle.stored.specs.Slots.{slots-length}
 use Rattle.finding.specs.Rising.{rising-order}
 use Rattle.finding.specs.Fences.{fencesOver}
 use Rattle.finding.specs.Rows.{head-row, head-woven, woven-rising, lower-rows}
+use Rattle.good.specs.Room.{head-takes-one-more}
+use Rattle.good.specs.Within.{head-few}
+use Rattle.good.specs.Cascade.{good-fits}
 use Rattle.edited.specs.Reach.{reach, reach-within}
 use Rattle.edited.specs.Woven.{toggle-weaves-in, toggle-weaves-out, own-reached}
 use Rattle.edited.specs.Run.{run-in, run-out}
@@ -81,9 +84,15 @@ unfolding slotsOf toggleHead
 slots-toggled e [] = refl
 slots-toggled e (es ∷ lower) = ap (λ (row : List Slot). row ∷ laid lower) (head-row (toggle e es) (laid lower))
 
-module _ (g : Geometry) (s : State) (e : Entry) (n : ℕ) (fit : InRange g) (fits : Fits g (slotsOf (s .tree))) (up : all ascending (s .tree) ≡ true) where
+module _ (g : Geometry) (s : State) (e : Entry) (n : ℕ) (fit : InRange g) (good : Good g s) where
   abbrev t : Tree
   t = s .tree
+
+  fits : Fits g (slotsOf t)
+  fits = good-fits g fit s good
+
+  abbrev up : all ascending t ≡ true
+  up = good .ascends
 
   abbrev row : List Slot
   row = getD (slotsOf t) 0 []
@@ -110,10 +119,11 @@ module _ (g : Geometry) (s : State) (e : Entry) (n : ℕ) (fit : InRange g) (fit
   some-reached : (b : Bool) → find (e .pair) (level 0 t) ≡ met b → 1 ≤ behind
   some-reached b h = rw (head-woven t) (own-reached e (level 0 t) (fencesBelow t) top (head-ordered t top up) b h)
 
-  pub added-written : find (e .pair) (level 0 t) ≡ absent → suc (length row) ≤ headRoom g →
+  pub added-written : find (e .pair) (level 0 t) ≡ absent →
       set (entryAdded e (reach (e .pair) (headSlots g (writing g s))) (writing g s)) liveWord n ≡ writing g after
   unfolding writing
-  added-written h more =
+  added-written h =
+      let more = head-takes-one-more g fit t fits (head-few g fit s good) in
       rw (row-read, added-laid g (s .live) (slotsOf t) fit fits e behind (reach-within (e .pair) row) more, slots-toggled e t, row-in h)
       (live-replaced g (s .live) (set (slotsOf t) 0 (take behind row ++ index e ∷ drop behind row)) n)
 

@@ -20,7 +20,7 @@ use Rattle.good.specs.Room.{roomy-fits}
 use Rattle.good.specs.Join.{join-length}
 use Rattle.good.specs.Live.{Counted, right-counted, counted-right}
 use Rattle.good.specs.Merge.{merge-length, merge-above, merge-here, merge-below, merge-fits, merge-ascends, merge-alternates, merge-counted, merge-holds, merge-last}
-use Rattle.good.specs.Within.{within-upper, within-bottom, empty-within}
+use Rattle.good.specs.Within.{within-upper, within-bottom, head-few, empty-within}
 
 -- A level above another, that level, or one below it.
 data Stands (j i : ℕ) : Type 0 where
@@ -142,10 +142,7 @@ module _ (g : Geometry) (fit : InRange g) where
     reaches = omega (arith, fit .levels-least);
     ascends = good .ascends;
     above = λ j h. absurd (omega (arith, h));
-    here = λ h.
-        let few : length (level 0 (s .tree)) < capacity g 0 =
-        ltb-true (length (level 0 (s .tree))) (capacity g 0) (sym (within-upper g 0 (length (level 0 (s .tree))) h) ∙ good .within 0 (omega (arith, fit .levels-least))) in
-        omega (arith, few);
+    here = λ h. omega (arith, head-few g fit s good);
     at-bottom = λ e. absurd (omega (arith, e, fit .levels-least));
     below = λ j h l. good .within j l;
     alternates = good .alternates;

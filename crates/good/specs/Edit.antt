@@ -6,11 +6,10 @@ use mathlib.Core.Path.{_≡_, refl, sym, _∙_}
 use mathlib.Core.Bool.{Bool, true, false, not, cond}
 use mathlib.Core.List.{[], _∷_}
 use lib.ListN.{length}
-use borrow.Author.Tests.{ltb-true}
 use Rattle.laws.specs.Lists.{all-cons}
 use Rattle.laws.specs.Flat.{all-first, all-rest}
 use Rattle.geometry.specs.declared.Geometry.{Geometry}
-use Rattle.geometry.specs.Geometry.{InRange, capacity, most, total}
+use Rattle.geometry.specs.Geometry.{InRange, most, total}
 use Rattle.slot.specs.declared.Pair.{Pair}
 use Rattle.slot.specs.Pair.{same, Words}
 use Rattle.slot.specs.Order.{same-level}
@@ -24,11 +23,19 @@ use Rattle.entries.specs.Counts.{kindCount, count-none, count-normal, count-fil
 use Rattle.good.specs.Toggle.{toggle-ascends, toggle-fits, toggle-length, cancel, find-other, find-toggle}
 use Rattle.good.specs.Alternate.{Over, alternating-over, alternating-below, over-alternating, held-rank, turned, met-over, toggle-over}
 use Rattle.good.specs.Live.{Even, toggle-even, Counted, right-counted, counted-right, held-some}
-use Rattle.good.specs.Within.{within-upper}
+use Rattle.good.specs.Within.{head-few}
 
--- The entry of a pair.
+-- The entry of a pair: normal for a put, a filter for a drop.
 abbrev pub entry : Pair → Bool → Entry
 entry p normal = record { pair = p; normal = normal }
+
+-- The live pairs after a put (a normal entry), and after a drop; the state with its head toggled.
+unfoldable pub liveAfter : Bool → ℕ → ℕ
+liveAfter true n = n + 1
+liveAfter false n = n - 1
+
+abbrev pub toggledState : Entry → State → State
+toggledState e s = record { live = liveAfter (e .normal) (s .live); tree = toggleHead e (s .tree) }
 
 -- A pair that is held is among the live ones.
 pub held-live : (g : Geometry) (s : State) (p : Pair) → Good g s → held p (s .tree) ≡ true → 1 ≤ s .live
@@ -89,7 +96,7 @@ module _ (g : Geometry) (fit : InRange g) (p : Pair) (b : Bool) where
           all-rest ascending head lower (good .ascends),
         ) refl;
     above = λ j k. absurd (omega (arith, k));
-    here = λ k. omega (arith, toggle-length (entry p b) head, few);
+    here = λ k. omega (arith, toggle-length (entry p b) head, head-few g fit (record { live = n; tree = head ∷ lower }) good);
     at-bottom = λ e. absurd (omega (arith, e, fit .levels-least));
     below = below;
     alternates = over-alternating (toggle (entry p b) head) lower (toggled-over p b head lower (head-rises g n head lower good) (head-over g n head lower good) h) (alternating-below head lower (good .alternates));
@@ -98,11 +105,6 @@ module _ (g : Geometry) (fit : InRange g) (p : Pair) (b : Bool) where
     fit = (toggle-fits (entry p b) head w (good .fit .0), good .fit .1);
   }
     where
-      few : length head < capacity g 0
-      few =
-          ltb-true (length head) (capacity g 0)
-          (sym (within-upper g 0 (length head) (omega (arith, fit .levels-least))) ∙ good .within 0 (omega (arith, fit .levels-least)))
-
       below : (j : ℕ) → 0 < j → j < g .levels → withinCapacity g j (length (level j (toggle (entry p b) head ∷ lower))) ≡ true
       below zero k l = absurd (omega (arith, k))
       below (suc j) k l = good .within (suc j) l
@@ -151,3 +153,10 @@ module _ (g : Geometry) (fit : InRange g) (p : Pair) where
       toggled-cascading g fit p false (s .live) (s .live - 1) (s .tree) good w h
       (toggled-counts (s .live) (s .live - 1) false (s .tree) good h
       (omega (arith, one .0, one .1, count-none true, count-none false, held-live g s p good h))) (omega (arith, good .few))
+
+  -- So in either case: a pair that is held just if it is dropped, and room for it if it is put.
+  pub change-cascading : (b : Bool) (s : State) → Good g s → Words p → held p (s .tree) ≡ not b → (b ≡ true → s .live < most g) →
+      Cascading g 0 (toggledState (entry p b) s)
+  unfolding liveAfter
+  change-cascading true s good w h room = put-cascading s good w h (room refl)
+  change-cascading false s good w h room = drop-cascading s good w h

@@ -107,3 +107,12 @@ module _ (g : Geometry) (fit : InRange g) where
       slots : (i : ℕ) → SlotsFit (getD (headOn es lower ∷ lower) i [])
       slots zero = rw (head-over es ds t) (over-fits es below (few 0) (a .0) (laid-fits (ds ∷ t) (a .1) few 0))
       slots (suc i) = laid-fits (ds ∷ t) (a .1) few i
+
+  -- A head with fewer entries than its capacity has room for one more slot.
+  pub head-takes-one-more : (t : Tree) → Fits g (slotsOf t) → length (level 0 t) < capacity g 0 → suc (length (getD (slotsOf t) 0 [])) ≤ headRoom g
+  unfolding slotsOf laid headRoom
+  head-takes-one-more [] f few = absurd (omega (arith, f .levels, fit .levels-least))
+  head-takes-one-more (es ∷ []) f few = absurd (omega (arith, f .levels, fit .levels-least))
+  head-takes-one-more (es ∷ ds ∷ t) f few =
+      rw (head-over es ds t, over-length es (getD (laid (ds ∷ t)) 0 []))
+      (omega (arith, few, capacity-zero g, f .rooms 1 (omega arith) (omega (arith, fit .levels-least))))

@@ -1,5 +1,5 @@
 -- `live_after` is one more for a put, one less for a drop. Assumes nothing.
-use Rattle.change.specs.Change.{liveAfter}
+use Rattle.good.specs.Edit.{liveAfter}
 use native.Mathlib.Omega.{arith}
 use Rattle.change.proofs.live_after.Statement.{statement}
 use Rattle.change.proofs.live_after.Tie as tie
