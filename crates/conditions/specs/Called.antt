@@ -16,7 +16,7 @@ use Rattle.geometry.specs.Places.{storeWords, workWords}
 use Rattle.geometry.specs.Bounds.{in-range}
 use Rattle.slot.specs.declared.Pair.{Pair}
 use Rattle.slot.specs.Pair.{Words}
-use Rattle.rules.specs.Merging.{State, formatted, refused}
+use Rattle.rules.specs.Merging.{State, formatted}
 use Rattle.rules.specs.Listing.{list}
 use Rattle.rules.specs.Store.{writing, emptyStore}
 use Rattle.rules.specs.Sound.{geometryOf, sound, fault}

@@ -23,13 +23,13 @@ use Rattle.rules.specs.Sound.{headSlots, entriesOf, treeOf, ascending, sound}
 use Rattle.rules.specs.Good.{Good}
 use Rattle.entries.specs.Ascending.{from-ascending}
 use Rattle.finding.specs.Asked.{decider, head-decides, below-decides}
+use Rattle.good.specs.Toggle.{toggle-adds, toggle-takes}
 use Rattle.good.specs.Edit.{entry, liveAfter, toggledState, change-cascading}
-use Rattle.good.specs.Settle.{settle-good}
+use Rattle.good.specs.Settle.{head-stays, head-merges, settle-good}
 use Rattle.good.specs.Within.{head-few}
 use Rattle.promises.specs.Written.{good-reads, good-tree, good-sound}
 use Rattle.change.specs.Change.{fillsHead, Changed, changedHead, changedTree, changeOf, change-merges, change-edits, merge-goes-on}
 use Rattle.change.specs.Toggled.{head-toggled}
-use Rattle.conditions.specs.Settled.{toggle-adds, toggle-takes, head-stays, head-merges}
 
 -- The work area after a call: all ones where it merged, else as it was.
 unfoldable pub workAfter : ℕ → List ℕ → List ℕ

@@ -9,13 +9,13 @@ use borrow.Author.Tests.{eq-eqb}
 use Rattle.geometry.specs.declared.Geometry.{Geometry}
 use Rattle.geometry.specs.Geometry.{InRange}
 use Rattle.geometry.specs.Places.{storeWords}
+use Rattle.geometry.specs.Bounds.{range-tested}
 use Rattle.rules.specs.Merging.{formatted}
 use Rattle.rules.specs.Store.{emptyStore}
 use Rattle.good.specs.Format.{formatted-good}
 use Rattle.promises.specs.Written.{good-length}
 use Rattle.index.specs.Format.{format-done}
 use Rattle.conditions.specs.Calls.{formatting, Call, comesTo, Made, make}
-use Rattle.conditions.specs.Opened.{range-tested}
 use Rattle.conditions.specs.Stands.{Stands, empty-stands}
 
 -- A format that is lent the store's exact length.

@@ -7,7 +7,6 @@
 --   Seen        as much of what calls came to as the set can answer
 --   Ruled       the same calls by the rules
 --   Reports     what calls report of pages
---   Settled     whether an edit of the head merges
 --   Changed     an accepted put or drop on the writing of a good state
 --   Opened      the opening tests on a store and what stands behind it
 --   Edited      put and drop on the writing of a good state
@@ -25,7 +24,6 @@ pub mod Plain
 pub mod Seen
 pub mod Ruled
 pub mod Reports
-pub mod Settled
 pub mod Changed
 pub mod Opened
 pub mod Edited

@@ -10,7 +10,8 @@ use lib.Seq.{length-take-le, take-at, drop-at, getD-take}
 use lib.Dec.{leb}
 use borrow.Author.Tests.{le-leb, eq-eqb, ne-eqb, leb-true}
 use Rattle.geometry.specs.declared.Geometry.{Geometry}
-use Rattle.geometry.specs.Geometry.{between, inRange, InRange}
+use Rattle.geometry.specs.Geometry.{InRange}
+use Rattle.geometry.specs.Bounds.{range-tested}
 use Rattle.geometry.specs.Places.{storeWords, planOf}
 use Rattle.geometry.specs.Lent.{lent}
 use Rattle.rules.specs.Merging.{State}
@@ -19,18 +20,6 @@ use Rattle.rules.specs.Sound.{geometryOf}
 use Rattle.rules.specs.Good.{Good}
 use Rattle.promises.specs.Written.{good-length, good-geometry}
 use Rattle.index.specs.Opening.{opening, too-short, wrong-length, all-pass}
-
-pub range-tested : (g : Geometry) → InRange g → inRange g ≡ true
-unfolding inRange between
-range-tested g fit =
-    rw (
-      le-leb 1 (g .head) (fit .head-least),
-      le-leb (g .head) 64 (fit .head-most),
-      le-leb 2 (g .ratio) (fit .ratio-least),
-      le-leb (g .ratio) 8 (fit .ratio-most),
-      le-leb 2 (g .levels) (fit .levels-least),
-      le-leb (g .levels) 4 (fit .levels-most),
-    ) refl
 
 module _ (g : Geometry) (fit : InRange g) (s : State) (good : Good g s) where
   abbrev w : List ℕ

@@ -9,10 +9,8 @@ use Rattle.geometry.specs.Geometry.{InRange, most}
 use Rattle.geometry.specs.Places.{storeWords}
 use Rattle.geometry.specs.Bounds.{in-range}
 use Rattle.slot.specs.declared.Pair.{Pair}
-use Rattle.slot.specs.Pair.{Words}
 use Rattle.rules.specs.Merging.{State, formatted}
 use Rattle.rules.specs.Store.{writing, emptyStore}
-use Rattle.rules.specs.Sound.{sound}
 use Rattle.rules.specs.Requests.{run, final, RequestsFit}
 use Rattle.promises.specs.Written.{good-geometry, good-sound}
 use Rattle.promises.specs.Answers.{answers as answers-of-requests, setAfter as set-after-requests}

@@ -9,15 +9,15 @@ use lib.ListN.{take, drop}
 use Rattle.slot.specs.declared.Pair.{Pair}
 use Rattle.slot.specs.declared.Slot.{Slot}
 use Rattle.slot.specs.Pair.{rank, before, same}
-use Rattle.slot.specs.Order.{before-below, not-before-above, same-level, below-before, above-not-before, apart-not-same}
+use Rattle.slot.specs.Order.{before-below, not-before-above, same-level, below-before, above-not-before}
 use Rattle.rules.specs.Tree.{Entry, Level, rankOf}
 use Rattle.rules.specs.Level.{index, place, weave}
 use Rattle.rules.specs.Finding.{Met, absent, met, find}
 use Rattle.rules.specs.Merging.{toggle}
 use Rattle.rules.specs.Sound.{inOrder, ascending}
-use Rattle.entries.specs.Ascending.{From, from-ascending, from-lower, find-here, find-on, find-above}
+use Rattle.entries.specs.Ascending.{From, from-ascending, from-lower, find-here, find-above}
 use Rattle.good.specs.Comparing.{Compared, earlier, equal, later, compared}
-use Rattle.good.specs.Toggle.{toggle-cancels, toggle-after, toggle-front}
+use Rattle.good.specs.Toggle.{toggle-cancels, toggle-after, toggle-front, find-later}
 use Rattle.edited.specs.Reach.{reach, reach-none, reach-on, reach-past, order-rest}
 
 -- An entry stands before the first fence that is above it, and behind any other.
@@ -167,8 +167,7 @@ module _ (e : Entry) where
           rw (find-above own (x ∷ es) above, toggle-front e (x ∷ es) above) (edits-front (x ∷ es) above fs o)
       stands (equal s) more = rw (find-here own x es s, toggle-cancels e x es s) (edits-own (x .normal) x es s (a .1) fs o)
       stands (later l) more =
-          let apart : same own (x .pair) ≡ false = apart-not-same own (x .pair) (λ q. omega (arith, q, before-below (x .pair) own l)) in
-          rw (find-on own x es apart, toggle-after e x es l) (edits-behind (find own es) x (weave es) (weave (toggle e es)) l more fs o)
+          rw (find-later own x es l, toggle-after e x es l) (edits-behind (find own es) x (weave es) (weave (toggle e es)) l more fs o)
 
   -- An entry of a new pair comes in, and an entry of a pair that is there goes out.
   module _ (es : Level) (fs : List Slot) (up : ascending es ≡ true) (order : inOrder (weave es fs) ≡ true) where

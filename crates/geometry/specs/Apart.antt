@@ -2,12 +2,12 @@
 use Prim.Native.Nat.{ℕ, zero, suc, _+_, _-_, _*_, _≤_, _<_}
 use native.Mathlib.Nat.{le-trans, le-refl, le-add-right, zero-add, suc-add}
 use native.Mathlib.Omega.{arith}
-use mathlib.Core.Path.{_≡_, refl}
+use mathlib.Core.Path.{_≡_}
 use Rattle.geometry.specs.declared.Geometry.{Geometry}
 use Rattle.geometry.specs.declared.Plan.{Plan}
 use Rattle.geometry.specs.Geometry.{InRange, room}
 use Rattle.geometry.specs.Bounds.{PlanSmall, capacities-small, rooms-small, room-small, room-zero}
-use Rattle.geometry.specs.Places.{headStart, headRoom, roomBefore, levelStart, pagePlace, slotPlace, headPlace, storeWords, workWords, planOf}
+use Rattle.geometry.specs.Places.{headRoom, roomBefore, levelStart, pagePlace, slotPlace, headPlace, storeWords, workWords, planOf}
 
 -- Level 1 follows the head's slots, and the levels stand one after the other.
 pub level-one : (g : Geometry) → 9 + 3 * (g .head + room g 1) ≡ levelStart g 1

@@ -39,6 +39,18 @@ in-range g e =
       levels-most = between-most 2 4 (g .levels) l;
     }
 
+pub range-tested : (g : Geometry) → InRange g → inRange g ≡ true
+unfolding inRange between
+range-tested g fit =
+    rw (
+      le-leb 1 (g .head) (fit .head-least),
+      le-leb (g .head) 64 (fit .head-most),
+      le-leb 2 (g .ratio) (fit .ratio-least),
+      le-leb (g .ratio) 8 (fit .ratio-most),
+      le-leb 2 (g .levels) (fit .levels-least),
+      le-leb (g .levels) 4 (fit .levels-most),
+    ) refl
+
 -- cap(i + 1) = cap(i) × k.
 pub capacity-suc : (g : Geometry) (i : ℕ) → capacity g (suc i) ≡ capacity g i * g .ratio
 unfolding capacity

@@ -7,7 +7,7 @@ use mathlib.Core.List.{List}
 use lib.ListN.{length, getD}
 use Rattle.geometry.specs.declared.Geometry.{Geometry}
 use Rattle.geometry.specs.declared.Plan.{Plan}
-use Rattle.geometry.specs.Geometry.{InRange, bottom, capacity, most, room, within, capacities, rooms}
+use Rattle.geometry.specs.Geometry.{InRange, bottom, capacity, most, room, capacities, rooms}
 use Rattle.geometry.specs.Places.{headRoom, levelStart, pagePlace, planOf, storeWords}
 use Rattle.geometry.specs.Bounds.{PlanSmall, within-is}
 use Rattle.geometry.specs.Apart.{plan-small, level-after, page-inside, level-inside}

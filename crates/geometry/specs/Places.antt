@@ -1,7 +1,7 @@
 -- Where the words of a store stand: the directory, the head's slots, each level's pages in order. Every constant of the
 -- layout has its name here and in src/lib.rt, and nowhere else. Assumes nothing.
 use Prim.Native.Nat.{ℕ, zero, suc, _+_, _*_, max}
-use mathlib.Core.List.{List, [], _∷_}
+use mathlib.Core.List.{[], _∷_}
 use Rattle.geometry.specs.declared.Geometry.{Geometry}
 use Rattle.geometry.specs.declared.Plan.{Plan}
 use Rattle.geometry.specs.Geometry.{room, capacities, rooms}

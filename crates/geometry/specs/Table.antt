@@ -3,7 +3,7 @@ use Prim.Native.Nat.{ℕ}
 use mathlib.Core.Path.{_≡_, refl}
 use mathlib.Core.List.{List, [], _∷_, map}
 use Rattle.geometry.specs.declared.Geometry.{Geometry}
-use Rattle.geometry.specs.Geometry.{bottom, capacity, most, total, roomOver, room}
+use Rattle.geometry.specs.Geometry.{capacity, most, total, roomOver, room}
 use Rattle.geometry.specs.Places.{headRoom, roomBefore, levelStart, storeWords, workWords}
 
 -- A row: H, k, l; M; the page rooms of levels 1 to 3; store words; work words.

@@ -17,7 +17,7 @@ use Rattle.rules.specs.Merging.{toggle, join}
 use Rattle.rules.specs.Sound.{alternating}
 use Rattle.entries.specs.Ascending.{From, from-lower, find-here, find-on, find-above, held-met, held-absent, held-agree}
 use Rattle.good.specs.Comparing.{Compared, earlier, equal, later, compared}
-use Rattle.good.specs.Toggle.{toggle-before, toggle-cancels, toggle-after, cancel, find-nothing}
+use Rattle.good.specs.Toggle.{toggle-before, toggle-cancels, toggle-after, cancel, find-nothing, find-later}
 use Rattle.good.specs.Join.{join-from, find-join, find-join-lower}
 
 -- Each entry of a level is normal exactly if its pair is not held below.
@@ -111,9 +111,7 @@ toggle-over n e (f ∷ fs) t a o k = stands (compared (e .pair) (f .pair)) (togg
     stands (earlier b) rest =
         rw (toggle-before e f fs b) (k (find-above (e .pair) (f ∷ fs) (before-below (e .pair) (f .pair) b, a .1)), o)
     stands (equal s) rest = rw (toggle-cancels e f fs s) (o .1)
-    stands (later l) rest =
-        let s : same (e .pair) (f .pair) ≡ false = apart-not-same (e .pair) (f .pair) λ q. omega (arith, before-below (f .pair) (e .pair) l, q) in
-        rw (toggle-after e f fs l) (o .0, rest λ h. k (find-on (e .pair) f fs s ∙ h))
+    stands (later l) rest = rw (toggle-after e f fs l) (o .0, rest λ h. k (find-later (e .pair) f fs l ∙ h))
 
 -- So do two neighbouring levels joined.
 pub join-over : (m n : ℕ) (es fs : Level) (t : Tree) → From m es → From n fs → Over es (fs ∷ t) → Over fs t → Over (join es fs) t

@@ -1,15 +1,15 @@
 -- A formatted store's state is good, and holds nothing. Assumes nothing.
-use Prim.Native.Nat.{ℕ}
+use Prim.Native.Nat.{ℕ, zero, suc}
 use native.Mathlib.Omega.{arith}
-use mathlib.Core.Path.{_≡_, sym, ap, subst, _∙_}
+use mathlib.Core.Path.{_≡_, refl, sym, ap, subst, _∙_}
 use mathlib.Core.Bool.{Bool, true, false}
 use mathlib.Core.List.{[], _++_, append-nil}
-use lib.ListN.{replicate, length-replicate, getD-replicate}
+use lib.ListN.{replicate, length-replicate}
 use Rattle.laws.specs.Lists.{all}
 use Rattle.geometry.specs.declared.Geometry.{Geometry}
 use Rattle.geometry.specs.Geometry.{InRange}
 use Rattle.slot.specs.declared.Pair.{Pair}
-use Rattle.rules.specs.Tree.{Level, Tree}
+use Rattle.rules.specs.Tree.{Tree, level}
 use Rattle.rules.specs.Finding.{held}
 use Rattle.rules.specs.Merging.{formatted}
 use Rattle.rules.specs.Sound.{ascending, alternating, countKind}
@@ -23,12 +23,22 @@ use Rattle.good.specs.Within.{empty-within}
 empties : (n : ℕ) → _≡_ {A = Tree} (replicate n []) (replicate n [] ++ [])
 empties n = sym (append-nil (replicate n []))
 
+-- None of its levels has an entry.
+empty-levels : (n i : ℕ) → level i (replicate n []) ≡ []
+empty-levels zero i = refl
+empty-levels (suc n) zero = refl
+empty-levels (suc n) (suc i) = empty-levels n i
+
+pub formatted-levels : (g : Geometry) (i : ℕ) → level i ((formatted g) .tree) ≡ []
+unfolding formatted
+formatted-levels g i = empty-levels (g .levels) i
+
 pub formatted-good : (g : Geometry) → InRange g → Good g (formatted g)
 unfolding formatted all alternating Counted TreeFits
 formatted-good g fit = record {
   levels = length-replicate (g .levels) [];
   ascends = ap (all ascending) (empties (g .levels)) ∙ ascending-under (g .levels) [];
-  within = λ i h. rw (getD-replicate {A = Level} (g .levels) i [] [] h) (empty-within g fit i);
+  within = λ i h. rw (empty-levels (g .levels) i) (empty-within g fit i);
   alternates = ap alternating (empties (g .levels)) ∙ alternating-under (g .levels) [];
   counted = counted-right 0 (replicate (g .levels) []) (omega (arith, none true, none false));
   few = omega arith;

@@ -8,16 +8,14 @@ use lib.ListN.{length}
 use borrow.Author.Tests.{eqb-true, eq-eqb}
 use Rattle.laws.specs.Lists.{concat}
 use Rattle.slot.specs.declared.Pair.{Pair}
-use Rattle.slot.specs.Pair.{same}
-use Rattle.slot.specs.Order.{before-below, apart-not-same}
 use Rattle.rules.specs.Tree.{Entry, Level, Tree, rankOf}
 use Rattle.rules.specs.Finding.{met, find, held}
 use Rattle.rules.specs.Merging.{toggle, join}
 use Rattle.rules.specs.Sound.{alternating, countKind, liveRight}
-use Rattle.entries.specs.Ascending.{From, AllFrom, find-here, find-on, held-met, held-agree}
+use Rattle.entries.specs.Ascending.{From, AllFrom, find-here, held-met, held-agree}
 use Rattle.entries.specs.Counts.{kindCount, count-none, count-normal, count-filter, count-joined, count-first, count-levels, count-no-levels}
 use Rattle.good.specs.Comparing.{Compared, earlier, equal, later, compared}
-use Rattle.good.specs.Toggle.{toggle-before, toggle-cancels, toggle-after}
+use Rattle.good.specs.Toggle.{toggle-before, toggle-cancels, toggle-after, find-later}
 use Rattle.good.specs.Join.{join-from, find-join-lower}
 use Rattle.good.specs.Alternate.{Over, alternating-over, alternating-below, turned, join-over, joined-held}
 
@@ -53,8 +51,7 @@ toggle-even e (f ∷ fs) k = stands (compared (e .pair) (f .pair)) (toggle-even 
         let u = count-unlike e f (k (f .normal) (find-here (e .pair) f fs s)) in
         rw (toggle-cancels e f fs s) (omega (arith, first true, first false, u true, u false))
     stands (later l) rest =
-        let s : same (e .pair) (f .pair) ≡ false = apart-not-same (e .pair) (f .pair) λ q. omega (arith, before-below (f .pair) (e .pair) l, q) in
-        let ih : Even (toggle e fs) (e ∷ fs) = rest λ c h. k c (find-on (e .pair) f fs s ∙ h) in
+        let ih : Even (toggle e fs) (e ∷ fs) = rest λ c h. k c (find-later (e .pair) f fs l ∙ h) in
         rw (toggle-after e f fs l)
         (omega (arith, ih, first true, first false, count-first true f (toggle e fs), count-first false f (toggle e fs), count-first true e fs, count-first false e fs))
 

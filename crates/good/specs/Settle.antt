@@ -1,5 +1,5 @@
 -- Settling: the whole cascade, which ends in a good state that holds what it held. Assumes nothing.
-use Prim.Native.Nat.{ℕ, zero, suc, _+_, _<_}
+use Prim.Native.Nat.{ℕ, zero, suc, _+_, _≤_, _<_}
 use native.Mathlib.Omega.{arith}
 use mathlib.Core.Path.{_≡_, refl, _∙_}
 use mathlib.Core.Bool.{Bool, true, false}
@@ -29,6 +29,38 @@ module _ (g : Geometry) (n i : ℕ) (t : Tree) where
       record { tree = rest .tree; deepest = rest .deepest; written = pagesWritten (suc i) (slotsOf (merge i t)) ++ rest .written })
   unfolding settle
   settle-sinks e = rw (e, settle) refl
+
+-- It goes down from its level, and ends at the bottom at the latest.
+module _ (g : Geometry) where
+  settle-from : (n i : ℕ) (t : Tree) → i ≤ (settle g n i t) .deepest
+  unfolding settle
+  settle-from zero i t = omega arith
+  settle-from (suc n) i t = told (ltb (length (level i t)) (capacity g i)) refl (settle-from n (suc i) (merge i t))
+    where
+      told : (b : Bool) → ltb (length (level i t)) (capacity g i) ≡ b → suc i ≤ (settle g n (suc i) (merge i t)) .deepest →
+          i ≤ (settle g (suc n) i t) .deepest
+      told true h rest = rw (settle-stays g n i t h) (omega arith)
+      told false h rest = rw (settle-sinks g n i t h) (omega (arith, rest))
+
+  pub settle-deepest : (n i : ℕ) (t : Tree) → (settle g n i t) .deepest ≤ n + i
+  unfolding settle
+  settle-deepest zero i t = omega arith
+  settle-deepest (suc n) i t = told (ltb (length (level i t)) (capacity g i)) refl (settle-deepest n (suc i) (merge i t))
+    where
+      told : (b : Bool) → ltb (length (level i t)) (capacity g i) ≡ b → (settle g n (suc i) (merge i t)) .deepest ≤ n + suc i →
+          (settle g (suc n) i t) .deepest ≤ suc n + i
+      told true h rest = rw (settle-stays g n i t h) (omega arith)
+      told false h rest = rw (settle-sinks g n i t h) (omega (arith, rest))
+
+  -- A head with fewer entries than its capacity stays, and any other is merged on.
+  pub head-stays : (n : ℕ) (t : Tree) → 1 ≤ n → ltb (length (level 0 t)) (capacity g 0) ≡ true →
+      settle g n 0 t ≡ record { tree = t; deepest = 0; written = [] }
+  head-stays zero t k h = absurd (omega arith)
+  head-stays (suc n) t k h = settle-stays g n 0 t h
+
+  pub head-merges : (n : ℕ) (t : Tree) → 1 ≤ n → ltb (length (level 0 t)) (capacity g 0) ≡ false → 1 ≤ (settle g n 0 t) .deepest
+  head-merges zero t k h = absurd (omega arith)
+  head-merges (suc n) t k h = rw (settle-sinks g n 0 t h) (settle-from n 1 (merge 0 t))
 
 -- The state once level i, with n levels below it, is settled.
 abbrev pub settledState : Geometry → ℕ → ℕ → State → State

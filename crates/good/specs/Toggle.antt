@@ -1,8 +1,8 @@
--- An entry toggled into a level that ascends: where it comes to stand, that the level still ascends and fits, and what it then tells of a
--- pair. Assumes nothing.
+-- An entry toggled into a level that ascends: where it comes to stand, that the level still ascends and fits, what it then tells of a pair,
+-- and how many entries it has. Assumes nothing.
 use Prim.Native.Nat.{ℕ, suc, _≤_}
 use native.Mathlib.Omega.{arith}
-use mathlib.Core.Path.{_≡_, refl, sym, _∙_}
+use mathlib.Core.Path.{_≡_, refl, sym, ap, _∙_}
 use mathlib.Core.Bool.{Bool, true, false}
 use mathlib.Core.List.{[], _∷_}
 use lib.ListN.{length}
@@ -98,6 +98,10 @@ pub find-other : (p : Pair) (e : Entry) → same p (e .pair) ≡ false → find 
 unfolding find
 find-other p e s = find-on p e [] s
 
+-- An entry before the pair is not its own.
+pub find-later : (p : Pair) (e : Entry) (es : Level) → before (e .pair) p ≡ true → find p (e ∷ es) ≡ find p es
+find-later p e es l = find-on p e es (apart-not-same p (e .pair) (λ q. omega (arith, q, before-below (e .pair) p l)))
+
 pub above-same : (p : Pair) (e : Entry) (fs : Level) → same p (e .pair) ≡ true → From (suc (rankOf e)) fs → find p fs ≡ absent
 above-same p e fs s a = find-above p fs (from-lower (suc (rank p)) (suc (rankOf e)) fs (omega (arith, same-level p (e .pair) s)) a)
 
@@ -133,3 +137,29 @@ find-toggle p n e (f ∷ fs) a = stands (compared (e .pair) (f .pair)) (find-tog
     stands (earlier b) rest = rw (toggle-before e f fs b) (find-front p e (f ∷ fs) (before-below (e .pair) (f .pair) b, a .1))
     stands (equal s) rest = rw (toggle-cancels e f fs s) (cancels s (same p (e .pair)) refl)
     stands (later l) rest = rw (toggle-after e f fs l) (goes-on l rest (same p (f .pair)) refl)
+
+-- An entry whose pair has none among ascending ones is one more, and one whose pair has one is one less.
+module _ (e : Entry) where
+  pub toggle-adds : (fs : Level) → find (e .pair) fs ≡ absent → length (toggle e fs) ≡ suc (length fs)
+  unfolding toggle
+  toggle-adds [] h = refl
+  toggle-adds (f ∷ fs) h = stands (compared (e .pair) (f .pair)) (toggle-adds fs)
+    where
+      stands : Compared (e .pair) (f .pair) → (find (e .pair) fs ≡ absent → length (toggle e fs) ≡ suc (length fs)) →
+          length (toggle e (f ∷ fs)) ≡ suc (suc (length fs))
+      stands (earlier b) rest = rw (toggle-before e f fs b) refl
+      stands (equal s) rest = let z : absent ≡ met (f .normal) = sym h ∙ find-here (e .pair) f fs s in cc
+      stands (later l) rest = rw (toggle-after e f fs l) (ap suc (rest (sym (find-later (e .pair) f fs l) ∙ h)))
+
+  pub toggle-takes : (n : ℕ) (fs : Level) (b : Bool) → From n fs → find (e .pair) fs ≡ met b → suc (length (toggle e fs)) ≡ length fs
+  unfolding From
+  toggle-takes n [] b a h = let z : absent ≡ met b = sym (find-nothing (e .pair)) ∙ h in cc
+  toggle-takes n (f ∷ fs) b a h = stands (compared (e .pair) (f .pair)) (toggle-takes (suc (rankOf f)) fs b (a .1))
+    where
+      stands : Compared (e .pair) (f .pair) → (find (e .pair) fs ≡ met b → suc (length (toggle e fs)) ≡ length fs) →
+          suc (length (toggle e (f ∷ fs))) ≡ suc (length fs)
+      stands (earlier l) rest =
+          let z : absent ≡ met b = sym (find-above (e .pair) (f ∷ fs) (before-below (e .pair) (f .pair) l, a .1)) ∙ h in
+          cc
+      stands (equal s) rest = rw (toggle-cancels e f fs s) refl
+      stands (later l) rest = rw (toggle-after e f fs l) (ap suc (rest (sym (find-later (e .pair) f fs l) ∙ h)))

@@ -5,7 +5,7 @@ use native.Mathlib.Omega.{arith}
 use mathlib.Core.Path.{_≡_, refl}
 use mathlib.Core.Bool.{Bool, true, false}
 use mathlib.Core.List.{[], _∷_}
-use lib.ListN.{length, replicate}
+use lib.ListN.{length}
 use lib.Dec.{ltb, eqb}
 use borrow.Author.Tests.{ltb-true, ltb-false, eqb-true, eqb-false}
 use Rattle.geometry.specs.declared.Geometry.{Geometry}
@@ -16,6 +16,7 @@ use Rattle.good.specs.Toggle.{toggle-length}
 use Rattle.good.specs.Join.{join-length}
 use Rattle.good.specs.Merge.{merge-above, merge-here, merge-below}
 use Rattle.good.specs.Settle.{settle-stays, settle-sinks}
+use Rattle.good.specs.Format.{formatted-levels}
 
 -- The index entries in levels 0 to i − 1.
 unfoldable pub entriesAbove : ℕ → Tree → ℕ
@@ -87,11 +88,5 @@ toggled-entries (suc zero) e (head ∷ lower) = omega (arith, toggle-length e he
 toggled-entries (suc (suc i)) e (head ∷ lower) = omega (arith, toggled-entries (suc i) e (head ∷ lower))
 
 -- A formatted store has none.
-empty-levels : (n i : ℕ) → level i (replicate n []) ≡ []
-empty-levels zero i = refl
-empty-levels (suc n) zero = refl
-empty-levels (suc n) (suc i) = empty-levels n i
-
 pub formatted-entries : (g : Geometry) (i : ℕ) → entriesAbove i ((formatted g) .tree) ≡ 0
-unfolding formatted
-formatted-entries g i = empty-above i (replicate (g .levels) []) (λ j h. empty-levels (g .levels) j)
+formatted-entries g i = empty-above i ((formatted g) .tree) (λ j h. formatted-levels g j)

@@ -16,7 +16,7 @@ use Rattle.rules.specs.Level.{pagesFor, pageOf, slotsOf}
 use Rattle.rules.specs.Merging.{merge, PageWrite, pagesWritten, settle, toggleHead, edit, State, Outcome, refused, done}
 use Rattle.rules.specs.Good.{Fits, Cascading}
 use Rattle.good.specs.Cascade.{mergedState, merged-cascading, cascading-fits}
-use Rattle.good.specs.Settle.{settle-stays, settle-sinks}
+use Rattle.good.specs.Settle.{settle-stays, settle-sinks, settle-deepest}
 use Rattle.promises.specs.Calls.{ComesTo, refusal, edited}
 
 -- The most that merges into levels 1 to i write, one into each.
@@ -66,17 +66,6 @@ module _ (g : Geometry) (fit : InRange g) where
             rest next (omega (arith, e)),
           ))
 
-  -- It ends at the bottom at the latest.
-  settle-deepest : (n i : ℕ) (t : Tree) → (settle g n i t) .deepest ≤ n + i
-  unfolding settle
-  settle-deepest zero i t = omega arith
-  settle-deepest (suc n) i t = told (ltb (length (level i t)) (capacity g i)) refl (settle-deepest n (suc i) (merge i t))
-    where
-      told : (b : Bool) → ltb (length (level i t)) (capacity g i) ≡ b → (settle g n (suc i) (merge i t)) .deepest ≤ n + suc i →
-          (settle g (suc n) i t) .deepest ≤ suc n + i
-      told true h rest = rw (settle-stays g n i t h) (omega arith)
-      told false h rest = rw (settle-sinks g n i t h) (omega (arith, rest))
-
   -- So with a request on a good state.
   module _ (s : State) (o : Outcome) where
     pub step-pages : ComesTo g s o → length (o .written) ≤ cascadeRoom g (o .deepest)
@@ -87,4 +76,4 @@ module _ (g : Geometry) (fit : InRange g) where
     pub step-deepest : ComesTo g s o → o .deepest ≤ bottom g
     unfolding refused done edit
     step-deepest (refusal n e) = rw e (omega arith)
-    step-deepest (edited live e d c) = rw d (omega (arith, settle-deepest (bottom g) 0 (toggleHead e (s .tree))))
+    step-deepest (edited live e d c) = rw d (omega (arith, settle-deepest g (bottom g) 0 (toggleHead e (s .tree))))

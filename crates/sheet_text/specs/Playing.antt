@@ -1,23 +1,22 @@
 -- The calls of a sheet made one after another: the text so far, and the text of what is left behind it, are the text of the sheet. Assumes nothing.
-use Prim.Native.Nat.{ℕ, zero, suc, _+_, _*_, _≤_, _<_}
+use Prim.Native.Nat.{ℕ, _+_, _*_, _≤_, _<_}
 use native.Mathlib.Nat.{zero-add}
 use native.Mathlib.Omega.{arith}
 use mathlib.Core.Path.{_≡_, refl, sym, ap, _∙_}
-use mathlib.Core.Bool.{true}
 use mathlib.Core.List.{List, [], _∷_, _++_}
 use lib.ListN.{length, getD, replicate, length-append, length-replicate, drop-of-length-le}
 use lib.Seq.{sets, length-sets}
-use borrow.Author.Tests.{le-leb, eq-eqb}
+use borrow.Author.Tests.{eq-eqb}
 use Rattle.laws.specs.Sets.{sets-behind}
 use Rattle.laws.specs.Lists.{span}
 use Rattle.geometry.specs.declared.Geometry.{Geometry}
-use Rattle.geometry.specs.Geometry.{InRange, inRange, between}
+use Rattle.geometry.specs.Geometry.{InRange}
+use Rattle.geometry.specs.Bounds.{range-tested}
 use Rattle.geometry.specs.Places.{liveWord, storeWords}
-use Rattle.rules.specs.Tree.{level}
 use Rattle.rules.specs.Merging.{entries, formatted}
 use Rattle.rules.specs.Store.{directory, laidOut, writing, emptyStore}
 use Rattle.rules.specs.Sound.{geometryOf, treeOf}
-use Rattle.good.specs.Format.{formatted-good}
+use Rattle.good.specs.Format.{formatted-levels, formatted-good}
 use Rattle.promises.specs.Written.{good-tree}
 use Rattle.index.specs.List.{Filled}
 use Rattle.index.specs.Format.{format-done}
@@ -32,34 +31,17 @@ use Rattle.sheet_text.specs.Counts.{written-geometry}
 use Rattle.sheet_text.specs.Printed.{Printed, Within, Calling}
 
 -- The first store is that of the empty set.
-in-range : (g : Geometry) → InRange g → inRange g ≡ true
-unfolding inRange between
-in-range g fit =
-    rw (
-      le-leb 1 (g .head) (fit .head-least),
-      le-leb (g .head) 64 (fit .head-most),
-      le-leb 2 (g .ratio) (fit .ratio-least),
-      le-leb (g .ratio) 8 (fit .ratio-most),
-      le-leb 2 (g .levels) (fit .levels-least),
-      le-leb (g .levels) 4 (fit .levels-most),
-    )
-
 first-empty : (g : Geometry) → InRange g → firstStore g ≡ emptyStore g
 unfolding firstStore
 first-empty g fit =
     sym (ap (λ (f : Filled). f .words)
-    (format-done (replicate (storeWords g) 0) g (in-range g fit) (eq-eqb _ _ (length-replicate (storeWords g) 0))))
+    (format-done (replicate (storeWords g) 0) g (range-tested g fit) (eq-eqb _ _ (length-replicate (storeWords g) 0))))
 
 -- It has no entries, and its geometry is the sheet's.
-no-level : (n i : ℕ) → level i (replicate n []) ≡ []
-no-level zero i = refl
-no-level (suc n) zero = refl
-no-level (suc n) (suc i) = no-level n i
-
 first-counts : (g : Geometry) → InRange g → 0 ∷ 0 ∷ 0 ∷ 0 ∷ [] ≡ entries (treeOf g (firstStore g))
-unfolding emptyStore entries span formatted
+unfolding emptyStore entries span
 first-counts g fit =
-    rw (first-empty g fit, good-tree g (formatted g) fit (formatted-good g fit), no-level (g .levels) 0, no-level (g .levels) 1, no-level (g .levels) 2, no-level (g .levels) 3)
+    rw (first-empty g fit, good-tree g (formatted g) fit (formatted-good g fit), formatted-levels g 0, formatted-levels g 1, formatted-levels g 2, formatted-levels g 3)
 
 first-geometry : (g : Geometry) → InRange g → geometryOf (firstStore g) ≡ g
 unfolding emptyStore
