@@ -13,7 +13,7 @@ use Rattle.slot.specs.declared.Pair.{Pair}
 use Rattle.rules.specs.Requests.{Request, putting, dropping}
 use Rattle.promises.specs.Plain.{has}
 use Rattle.promises.specs.Answers.{answer}
-use Rattle.index.specs.Reply.{Test, firstFailing}
+use Rattle.index.specs.Reply.{first-among}
 use Rattle.conditions.specs.Calls.{Task, formatting, changing, asking, listing, checking, Call, Made}
 use Rattle.conditions.specs.Lengths.{testsOf, refusal, passed, geometryThen}
 use Rattle.conditions.specs.Plain.{Answer, fillsSlice, answerTo, refusing, answered, setThen, answers, refusing-number}
@@ -23,18 +23,9 @@ use Rattle.conditions.specs.Seen.{seenOf, seen, seen-number}
 unfoldable pub noFault : ℕ → Bool
 noFault n = not (eqb n 6)
 
-few-tests : (ts : List Test) → all (λ t. noFault (t .number)) ts ≡ true → noFault (firstFailing ts) ≡ true
-unfolding firstFailing noFault
-few-tests [] h = refl
-few-tests (t ∷ ts) h = by (t .passes) refl (few-tests ts (all-rest (λ (t : Test). noFault (t .number)) t ts h))
-  where
-    by : (b : Bool) → t .passes ≡ b → noFault (firstFailing ts) ≡ true → noFault (firstFailing (t ∷ ts)) ≡ true
-    by true p rest = rw (p, firstFailing) rest
-    by false p rest = rw (p, firstFailing) (all-first (λ (t : Test). noFault (t .number)) t ts h)
-
 refusal-few : (g : Geometry) (n : ℕ) (task : Task) → noFault (refusal g (record { lent = n; task = task })) ≡ true
 unfolding refusal testsOf all noFault
-refusal-few g n task = few-tests (testsOf g n task) (by task)
+refusal-few g n task = first-among noFault (testsOf g n task) refl (by task)
   where
     by : (task : Task) → all (λ t. noFault (t .number)) (testsOf g n task) ≡ true
     by (formatting h) = refl

@@ -1,5 +1,5 @@
 -- The fences over a level: one for each of its pages, legal, in turn, and rising where the level's own slots do. Assumes nothing.
-use Prim.Native.Nat.{ℕ, zero, suc, _-_, _*_, _≤_, _<_}
+use Prim.Native.Nat.{ℕ, zero, suc, _-_, _*_, _<_}
 use native.Mathlib.Omega.{arith}
 use mathlib.Core.Path.{_≡_, refl, ap, _∙_}
 use mathlib.Core.Bool.{true, false}
@@ -7,14 +7,13 @@ use mathlib.Core.List.{List, [], _∷_}
 use lib.ListN.{length, getD}
 use borrow.Author.Tests.{lt-ltb}
 use Rattle.laws.specs.Lists.{span, passing, all}
-use Rattle.laws.specs.Flat.{span-first}
+use Rattle.laws.specs.Flat.{span-first, all-span}
 use Rattle.slot.specs.declared.Pair.{Pair}
 use Rattle.slot.specs.declared.Slot.{Slot}
 use Rattle.slot.specs.Pair.{rank, least, least-first}
 use Rattle.rules.specs.Level.{external, pagesFor, firstOf, fenceOf, fences}
 use Rattle.rules.specs.Pages.{pages-some, pages-inside}
 use Rattle.rules.specs.Sound.{fencePages, legal}
-use Rattle.finding.specs.Tests.{all-span}
 use Rattle.finding.specs.Rising.{weight, Rising, weight-least, weight-most, rising-at, rising-apart, rising-span}
 use Rattle.finding.specs.Woven.{fence, pages-fence}
 

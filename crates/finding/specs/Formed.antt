@@ -11,7 +11,7 @@ use lib.Seq.{drop-cons}
 use lib.Dec.{ltb, leb, eqb}
 use borrow.Author.Tests.{le-leb, eq-eqb, ne-eqb, ltb-true, ltb-false, eqb-true, eqb-false}
 use Rattle.laws.specs.Lists.{span, all, equal, all-three, all-at}
-use Rattle.laws.specs.Flat.{equal-refl}
+use Rattle.laws.specs.Flat.{equal-refl, all-take, all-drop}
 use Rattle.geometry.specs.declared.Geometry.{Geometry}
 use Rattle.geometry.specs.Geometry.{InRange, bottom, most, room}
 use Rattle.geometry.specs.Places.{pagesWord, headCountWord, headRoom}
@@ -25,7 +25,6 @@ use Rattle.rules.specs.Good.{Good, Fits}
 use Rattle.rules.specs.Reading.{Reads}
 use Rattle.walk.specs.Passes.{pages-of}
 use Rattle.entries.specs.Levels.{pages-none}
-use Rattle.finding.specs.Tests.{all-take, all-drop}
 use Rattle.finding.specs.Rising.{rising-take, rising-drop, rising-order}
 use Rattle.finding.specs.Woven.{entries-woven, fence-pages-woven}
 use Rattle.rules.specs.Pages.{pages-some, pages-inside}

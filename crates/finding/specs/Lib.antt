@@ -1,6 +1,5 @@
 -- The walk finds what the tree holds. Each module uses only those above it.
 --
---   Tests     tests that all of a list pass
 --   Rising    slots weigh by pair and kind; a level's weights rise, so slots a page apart differ in pair
 --   Woven     entries woven with fences
 --   Paged     a row cut into pages with its internal fences
@@ -12,7 +11,6 @@
 --   PageTold  that page tells what its whole row does
 --   Asked     the walk on slots finds the topmost entry: `ask-held`, `ask-decider`
 --   Walked    so does the walk on words, with no fault: `walked-finds`
-pub mod Tests
 pub mod Rising
 pub mod Woven
 pub mod Paged

@@ -10,7 +10,7 @@ use lib.Dec.{ltb}
 use borrow.Author.Tests.{ltb-true, ltb-false}
 use Rattle.laws.specs.Tests.{and-right}
 use Rattle.laws.specs.Lists.{all}
-use Rattle.laws.specs.Flat.{all-first, all-rest}
+use Rattle.laws.specs.Flat.{all-first, all-rest, all-take}
 use Rattle.slot.specs.declared.Pair.{Pair}
 use Rattle.slot.specs.declared.Slot.{Slot}
 use Rattle.slot.specs.Pair.{least, before, same, none-before-least}
@@ -19,7 +19,6 @@ use Rattle.page.specs.Told.{no-fence}
 use Rattle.rules.specs.Level.{external, pagesFor, pageOf, firstOf}
 use Rattle.rules.specs.Finding.{Told, follow, nothing, tell}
 use Rattle.rules.specs.Sound.{legal, firstIsLeast, firstRight}
-use Rattle.finding.specs.Tests.{all-take}
 use Rattle.finding.specs.Rising.{weight, Rising, weight-least, weight-most, entry-weight, rising-take, rising-drop}
 use Rattle.finding.specs.Woven.{fence}
 use Rattle.rules.specs.Pages.{pages-inside, pages-reach}

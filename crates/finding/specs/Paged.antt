@@ -10,14 +10,13 @@ use lib.ListN.{length, getD}
 use lib.Dec.{eqb}
 use borrow.Author.Tests.{lt-ltb, ltb-true, eqb-true, eqb-false}
 use Rattle.laws.specs.Lists.{all}
-use Rattle.laws.specs.Flat.{all-first, all-rest}
+use Rattle.laws.specs.Flat.{all-first, all-rest, all-join}
 use Rattle.slot.specs.declared.Slot.{Slot}
 use Rattle.slot.specs.declared.Kind.{Kind}
 use Rattle.slot.specs.declared.Kind.the-variants.{Normal, Filter, External, Internal}
 use Rattle.slot.specs.Pair.{rank}
 use Rattle.rules.specs.Level.{internal, fenceKind, paged}
 use Rattle.rules.specs.Sound.{legal, legalKind}
-use Rattle.finding.specs.Tests.{all-join}
 use Rattle.finding.specs.Rising.{turn, weight, Rising, entry-weight}
 use Rattle.finding.specs.Woven.{fence}
 

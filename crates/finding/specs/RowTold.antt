@@ -10,7 +10,7 @@ use Rattle.laws.specs.Lists.{span, all}
 use Rattle.laws.specs.Flat.{all-first, all-rest}
 use Rattle.slot.specs.declared.Pair.{Pair}
 use Rattle.slot.specs.declared.Slot.{Slot}
-use Rattle.slot.specs.Pair.{rank, least, before, same, least-first}
+use Rattle.slot.specs.Pair.{rank, least, before, least-first}
 use Rattle.slot.specs.Order.{before-below, not-before-above, below-before, above-not-before}
 use Rattle.rules.specs.Tree.{Entry, Level, rankOf}
 use Rattle.rules.specs.Level.{index, external, internal, pagesFor, firstOf, fenceOf, weave, paged}

@@ -7,14 +7,13 @@ use mathlib.Core.Bool.{true, false, false≢true}
 use mathlib.Core.List.{List, [], _∷_, map}
 use lib.ListN.{length, getD, drop, drop-of-length-le}
 use Rattle.laws.specs.Lists.{span, all}
-use Rattle.laws.specs.Flat.{all-first, all-rest}
+use Rattle.laws.specs.Flat.{all-first, all-rest, all-drop}
 use Rattle.slot.specs.declared.Slot.{Slot}
 use Rattle.slot.specs.Pair.{least, least-first}
 use Rattle.slot.specs.Order.{above-not-before, level-same}
 use Rattle.rules.specs.Tree.{Level, Tree, level}
 use Rattle.rules.specs.Level.{index, external, pagesFor, firstOf, fenceOf, place, weave, paged, over, layOn, laid, headOn, slotsOf}
 use Rattle.rules.specs.Sound.{legal, firstIsLeast, ascending}
-use Rattle.finding.specs.Tests.{all-drop}
 use Rattle.finding.specs.Rising.{Rising}
 use Rattle.finding.specs.Woven.{fence, index-legal, all-woven, rising-entries, rising-woven}
 use Rattle.finding.specs.Paged.{legal-paged, rising-paged, fence-opens}

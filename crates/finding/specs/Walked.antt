@@ -11,7 +11,7 @@ use lib.Seq.{drop-cons, drop-drop, getD-drop}
 use lib.Dec.{ltb, eqb}
 use borrow.Author.Tests.{eq-eqb, ne-eqb, ltb-true, ltb-false}
 use Rattle.laws.specs.Lists.{all, all-at}
-use Rattle.laws.specs.Flat.{all-first, all-rest}
+use Rattle.laws.specs.Flat.{all-first, all-rest, all-drop}
 use Rattle.geometry.specs.declared.Geometry.{Geometry}
 use Rattle.geometry.specs.Geometry.{InRange, bottom}
 use Rattle.slot.specs.declared.Pair.{Pair}
@@ -27,7 +27,6 @@ use Rattle.walk.specs.declared.Walked.the-variants.{Found}
 use Rattle.walk.specs.Step.{stepOf, headStep, pageStep}
 use Rattle.walk.specs.Walk.{walkOn, walked}
 use Rattle.entries.specs.Ascending.{held-met, held-absent}
-use Rattle.finding.specs.Tests.{all-drop}
 use Rattle.finding.specs.Rows.{rowOn, laid-row, lower-laid}
 use Rattle.finding.specs.RowTold.{Leads}
 use Rattle.finding.specs.PageTold.{page-first}

@@ -6,7 +6,7 @@ use mathlib.Core.Path.{_≡_, refl, sym, ap, _∙_}
 use mathlib.Core.Bool.{Bool, true, false}
 use mathlib.Core.List.{List, [], _∷_, map}
 use Rattle.laws.specs.Lists.{all, passing-yes, passing-no}
-use Rattle.laws.specs.Flat.{all-first, all-rest}
+use Rattle.laws.specs.Flat.{all-first, all-rest, all-join}
 use Rattle.slot.specs.declared.Slot.{Slot}
 use Rattle.slot.specs.declared.Kind.the-variants.{Normal, Filter}
 use Rattle.slot.specs.Pair.{before}
@@ -16,7 +16,6 @@ use Rattle.rules.specs.Level.{index, fenceKind, place, weave}
 use Rattle.rules.specs.Finding.{normalKind}
 use Rattle.rules.specs.Sound.{entriesOf, fencePages, ascending, legal}
 use Rattle.entries.specs.Ascending.{From, from-ascending}
-use Rattle.finding.specs.Tests.{all-join}
 use Rattle.finding.specs.Rising.{weight, Rising, weight-least, fence-weight, entry-weight, rising-lower}
 
 abbrev pub fence : Slot → Bool

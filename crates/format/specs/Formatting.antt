@@ -13,7 +13,7 @@ use lib.Dec.{eqb}
 use borrow.Author.Tests.{eqb-true, eqb-false}
 use Rattle.laws.specs.Lists.{concat}
 use Rattle.laws.specs.Flat.{slice-replicate, replicate-slice}
-use Rattle.laws.specs.Sets.{getD-sets-behind}
+use Rattle.laws.specs.Sets.{getD-sets-behind, part-before, part-behind, part-stored}
 use Rattle.geometry.specs.declared.Geometry.{Geometry}
 use Rattle.geometry.specs.declared.Plan.{Plan}
 use Rattle.geometry.specs.Geometry.{InRange, room}
@@ -28,7 +28,6 @@ use Rattle.rules.specs.Merging.{formatted}
 use Rattle.rules.specs.Store.{runWords, pageWords, levelWords, directory, writing, emptyStore}
 use Rattle.written.specs.Run.{wordsOfAll, words-length}
 use Rattle.written.specs.Pages.{Unused, levelPage, level-pages, page-used, page-unused, pages-joined}
-use Rattle.stored.specs.Sets.{part-before, part-behind, part-stored}
 use Rattle.stored.specs.Parts.{parts-laid}
 use Rattle.stored.specs.Replacing.{head-before}
 use Rattle.format.specs.Empty.{firstFence, fenceAlone, emptyRow, emptySlots, row-at, row-head, row-short, row-one-page}

@@ -6,12 +6,13 @@ use mathlib.Core.Path.{_≡_, refl, sym, ap, _∙_}
 use mathlib.Core.Bool.{Bool, true, false, true≢false}
 use mathlib.Core.List.{List, [], _∷_, _++_}
 use lib.ListN.{length, getD, drop}
-use lib.Dec.{leb, ltb, eqb}
+use lib.Dec.{ltb, eqb}
 use borrow.Author.Tests.{eq-eqb, ne-eqb, lt-ltb, le-ltb}
+use Rattle.laws.specs.Lists.{all}
 use Rattle.geometry.specs.declared.Geometry.{Geometry}
-use Rattle.geometry.specs.Geometry.{inRange, bottom, most}
+use Rattle.geometry.specs.Geometry.{bottom, most}
 use Rattle.geometry.specs.declared.Plan.{Plan}
-use Rattle.geometry.specs.Places.{liveWord, storeWords, workWords, planOf}
+use Rattle.geometry.specs.Places.{liveWord, workWords, planOf}
 use Rattle.slot.specs.declared.Pair.{Pair}
 use Rattle.rules.specs.Sound.{sound, faultAt, geometryOf}
 use Rattle.rules.specs.Sound.{Fault as StoreFault}
@@ -28,8 +29,8 @@ use Rattle.index.specs.declared.Changed.{Changed as Answered}
 use Rattle.index.specs.declared.Opened.{Opened}
 use Rattle.index.specs.declared.Edited.{Edited}
 use Rattle.index.specs.declared.Edited.the-variants.{Done, Range, Length, Fault, Held, Missing, Full}
-use Rattle.index.specs.Reply.{Reply, Test, test, firstFailing}
-use Rattle.index.specs.Opening.{openTests, opening, Opens}
+use Rattle.index.specs.Reply.{Reply, Test, test, firstFailing, byFirst, first-of-both}
+use Rattle.index.specs.Opening.{openTests, opening, Opens, five-left}
 
 -- A reply with the words of the store and of the work area after it.
 pub record Kept : Type 0 where
@@ -71,11 +72,6 @@ changeReply (faultAt level) values store work = kept 6 (level ∷ drop 1 values)
 
 abbrev pub changedReply : Changed → Kept
 changedReply c = changeReply (c .fault) (c .values) (c .store) (c .work)
-
--- The opening tests' number by their answers: nine words, the ranges, the store's length, the work area's.
-unfoldable opens : Bool → Bool → Bool → Bool → ℕ
-opens words range store work =
-    elim words [ true ↦ elim range [ true ↦ elim store [ true ↦ elim work [ true ↦ 0 | false ↦ 5 ] | false ↦ 5 ] | false ↦ 1 ] | false ↦ 5 ]
 
 module _ (w work : List ℕ) where
   abbrev g : Geometry
@@ -177,47 +173,25 @@ module _ (w work : List ℕ) where
     unfolding dropFound
     drop-changes held h f = rw (h, f, dropFound)
 
-  -- The opening tests with the work area's length, by the answers of the four.
-  module _ where
-    pub both-refused : (n : ℕ) → suc n ≡ opening w → suc n ≡ openingBoth w work
-    unfolding openingBoth bothTests opening openTests firstFailing opens
-    both-refused n e = by (leb 9 (length w)) (inRange g) (eqb (length w) (storeWords g)) (eqb (length work) (workWords g)) e
-      where
-        by : (a b c d : Bool) → suc n ≡ opens a b c true → suc n ≡ opens a b c d
-        by true true true d q = absurd (omega arith)
-        by true true false d q = q
-        by true false c d q = q
-        by false b c d q = q
+  -- The opening tests decide first, and then the work area's length.
+  both-first : openingBoth w work ≡ byFirst (opening w) (firstFailing (test (eqb (length work) (workWords g)) 5 ∷ [])) (λ n. n)
+  unfolding openingBoth bothTests opening openTests all
+  both-first = first-of-both (openTests w) (test (eqb (length work) (workWords g)) 5 ∷ []) refl
 
-    both-opened : {d : Bool} → eqb (length work) (workWords g) ≡ d → 0 ≡ opening w → opens true true true d ≡ openingBoth w work
-    unfolding openingBoth bothTests opening openTests firstFailing opens
-    both-opened {d} h e = rw h (by (leb 9 (length w)) (inRange g) (eqb (length w) (storeWords g)) e)
-      where
-        by : (a b c : Bool) → 0 ≡ opens a b c true → opens true true true d ≡ opens a b c d
-        by true true true q = refl
-        by true true false q = absurd (omega arith)
-        by true false c q = absurd (omega arith)
-        by false b c q = absurd (omega arith)
+  pub both-refused : (n : ℕ) → suc n ≡ opening w → suc n ≡ openingBoth w work
+  both-refused n e = rw (both-first, ← e) refl
 
-    pub both-short : eqb (length work) (workWords g) ≡ false → 0 ≡ opening w → 5 ≡ openingBoth w work
-    unfolding opens
-    both-short q e = both-opened q e
+  pub both-short : eqb (length work) (workWords g) ≡ false → 0 ≡ opening w → 5 ≡ openingBoth w work
+  unfolding firstFailing
+  both-short q e = rw (both-first, ← e, q, firstFailing) refl
 
-    pub both-pass : eqb (length work) (workWords g) ≡ true → 0 ≡ opening w → 0 ≡ openingBoth w work
-    unfolding opens
-    both-pass q e = both-opened q e
+  pub both-pass : eqb (length work) (workWords g) ≡ true → 0 ≡ opening w → 0 ≡ openingBoth w work
+  unfolding firstFailing
+  both-pass q e = rw (both-first, ← e, q, firstFailing) refl
 
-  -- It is 0, 1 or 5.
   pub both-length-left : (openingBoth w work ≡ 1 → ⊥) → (openingBoth w work ≡ 0 → ⊥) → 5 ≡ openingBoth w work
-  unfolding openingBoth bothTests openTests firstFailing opens
-  both-length-left one none = by (leb 9 (length w)) (inRange g) (eqb (length w) (storeWords g)) (eqb (length work) (workWords g)) one none
-    where
-      by : (a b c d : Bool) → (opens a b c d ≡ 1 → ⊥) → (opens a b c d ≡ 0 → ⊥) → 5 ≡ opens a b c d
-      by true true true true o z = absurd (z refl)
-      by true true true false o z = refl
-      by true true false d o z = refl
-      by true false c d o z = absurd (o refl)
-      by false b c d o z = refl
+  unfolding openingBoth bothTests openTests all
+  both-length-left = five-left (bothTests w work) refl
 
 -- What opening a store and a work area gives.
 pub record OpensBoth (w work : List ℕ) (r : Opened) : Type 0 where

@@ -1,7 +1,7 @@
 -- Format on any words: the paper's numbers for what src/lib.rt answers, with every word of the store afterwards, as a total function of the
 -- store's words and the geometry given. Assumes nothing.
 use Prim.Native.Nat.{ℕ, zero, suc}
-use mathlib.Core.Path.{_≡_, refl}
+use mathlib.Core.Path.{_≡_}
 use mathlib.Core.Bool.{true, false}
 use mathlib.Core.List.{List, [], _∷_}
 use lib.ListN.{length}

@@ -1,11 +1,9 @@
 -- What the clauses of src/lib.rt cite: the numbers that a host hands over as a pair or a geometry, and the number and values that it gets as a
 -- reply. Assumes nothing.
 use Prim.Native.Nat.{ℕ}
-use native.Mathlib.Omega.{arith}
-use mathlib.Core.Path.{_≡_, refl, ap}
+use mathlib.Core.Path.{_≡_, ap}
 use mathlib.Core.Bool.{true, false, cond}
-use mathlib.Core.List.{List, [], _∷_}
-use lib.ListN.{length, getD}
+use mathlib.Core.List.{List}
 use Rattle.geometry.specs.declared.Geometry.{Geometry}
 use Rattle.geometry.specs.Geometry.{inRange}
 use Rattle.slot.specs.declared.Pair.{Pair}
@@ -43,12 +41,3 @@ beside words e = ap (λ (x : Reply). record { reply = x; words = words }) e
 pub beside-both : {x y : Reply} (store work : List ℕ) → x ≡ y →
     _≡_ {A = Kept} (record { reply = x; store = store; work = work }) (record { reply = y; store = store; work = work })
 beside-both store work e = ap (λ (x : Reply). record { reply = x; store = store; work = work }) e
-
--- Four numbers told one by one.
-pub four-words : (l : List ℕ) → length l ≡ 4 → getD l 0 0 ∷ getD l 1 0 ∷ getD l 2 0 ∷ getD l 3 0 ∷ [] ≡ l
-four-words (a ∷ b ∷ c ∷ d ∷ []) e = refl
-four-words [] e = absurd (omega arith)
-four-words (a ∷ []) e = absurd (omega arith)
-four-words (a ∷ b ∷ []) e = absurd (omega arith)
-four-words (a ∷ b ∷ c ∷ []) e = absurd (omega arith)
-four-words (a ∷ b ∷ c ∷ d ∷ x ∷ l) e = absurd (omega arith)

@@ -1,7 +1,7 @@
 -- Two results that one promise allows are equal: the number r or s, out as a or b, and the words of store, work area and list. Assumes nothing.
 use Prim.Native.Nat.{ℕ}
 use mathlib.Core.Path.{_≡_, sym, ap, _∙_}
-use mathlib.Core.List.{List, [], _∷_}
+use mathlib.Core.List.{List}
 use Rattle.geometry.specs.declared.Geometry.{Geometry}
 use Rattle.slot.specs.declared.Pair.{Pair}
 use Rattle.index.specs.Reply.{Reply}

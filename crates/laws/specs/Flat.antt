@@ -1,4 +1,4 @@
--- Laws of spans, of lists joined, of the test of equality, and of tests that pass together. Assumes nothing.
+-- Laws of spans, of lists joined, of the test of equality, of a test that all of a list pass, and of tests that pass together. Assumes nothing.
 use Prim.Native.Nat.{ℕ, zero, suc, _+_, _-_, _≤_, _<_}
 use native.Mathlib.Nat.{add-zero, zero-add, add-suc, suc-add}
 use native.Mathlib.Numerals.{add-one}
@@ -35,6 +35,28 @@ module _ {A : Type 0} (t : A → Bool) (a : A) (l : List A) where
       chosen : (b : Bool) → elim b [ true ↦ all t l | false ↦ false ] ≡ true → all t l ≡ true
       chosen true h = h
       chosen false h = cc
+
+-- It is passed by a list joined of its first and the rest, by parts of a list, and by a span.
+module _ {A : Type 0} (t : A → Bool) where
+  pub all-join : (a : A) (l : List A) → t a ≡ true → all t l ≡ true → all t (a ∷ l) ≡ true
+  unfolding all
+  all-join a l e h = rw (e, all) h
+
+  pub all-take : (k : ℕ) (l : List A) → all t l ≡ true → all t (take k l) ≡ true
+  unfolding all
+  all-take zero l h = refl
+  all-take (suc k) [] h = refl
+  all-take (suc k) (a ∷ l) h = all-join a (take k l) (all-first t a l h) (all-take k l (all-rest t a l h))
+
+  pub all-drop : (k : ℕ) (l : List A) → all t l ≡ true → all t (drop k l) ≡ true
+  all-drop zero l h = h
+  all-drop (suc k) [] h = h
+  all-drop (suc k) (a ∷ l) h = all-drop k l (all-rest t a l h)
+
+  pub all-span : (f : ℕ → A) (i n : ℕ) → ((k : ℕ) → k < i + n → t (f k) ≡ true) → all t (span f i n) ≡ true
+  unfolding all span
+  all-span f i zero h = refl
+  all-span f i (suc n) h = all-join (f i) (span f (suc i) n) (h i (omega arith)) (all-span f (suc i) n (λ k b. h k (omega arith)))
 
 -- Lists that pass the test of equality are equal, and equal lists pass it.
 pub equal-true : (l m : List ℕ) → equal l m ≡ true → l ≡ m

@@ -2,4 +2,5 @@
 pub mod Tests
 pub mod Lists
 pub mod Flat
+pub mod Joined
 pub mod Sets

@@ -113,3 +113,12 @@ equal-cons m n ms ns = chosen (eqb m n)
     chosen : (b : Bool) → elim b as (λ x. Bool) [ true ↦ equal ms ns | false ↦ false ] ≡ (b && equal ms ns)
     chosen true = refl
     chosen false = refl
+
+-- Four numbers told one by one.
+pub four-words : (l : List ℕ) → length l ≡ 4 → getD l 0 0 ∷ getD l 1 0 ∷ getD l 2 0 ∷ getD l 3 0 ∷ [] ≡ l
+four-words (a ∷ b ∷ c ∷ d ∷ []) e = refl
+four-words [] e = absurd (omega arith)
+four-words (a ∷ []) e = absurd (omega arith)
+four-words (a ∷ b ∷ []) e = absurd (omega arith)
+four-words (a ∷ b ∷ c ∷ []) e = absurd (omega arith)
+four-words (a ∷ b ∷ c ∷ d ∷ x ∷ l) e = absurd (omega arith)

@@ -1,12 +1,12 @@
 -- Laws of words stored from a place on: stores that follow one another are one, and what stands elsewhere stays. Assumes nothing.
 use Prim.Native.Nat.{ℕ, zero, suc, _+_, _≤_, _<_}
-use native.Mathlib.Nat.{add-zero, add-suc, suc-add}
+use native.Mathlib.Nat.{add-zero, zero-add, suc-add}
 use native.Mathlib.Omega.{arith}
 use mathlib.Core.Path.{_≡_, refl, sym, ap, _∙_}
 use mathlib.Core.Logic.{_≢_}
-use mathlib.Core.List.{List, [], _∷_, _++_}
+use mathlib.Core.List.{List, [], _∷_, _++_, append-assoc}
 use lib.ListN.{length, getD, set, take, drop, length-append, length-take, length-drop, take-append-drop}
-use lib.Seq.{sets, slice, sets-eq, set-comm, getD-set-other, take-add, take-set-lt, drop-set-lt}
+use lib.Seq.{sets, slice, sets-eq, set-comm, getD-set-other, take-nil, take-at, drop-at, take-add, take-set-lt, take-set-le, drop-set-lt, length-take-le}
 
 module _ {A : Type 0} where
   -- A store before a run of stores may be made first.
@@ -59,3 +59,29 @@ module _ {A : Type 0} where
 
   pub slice-set-before : (l : List A) (i f t : ℕ) (a : A) → i < f → f ≤ t → slice f t (set l i a) ≡ slice f t l
   slice-set-before l i f t a h b = rw (take-set-lt t l i a (omega arith)) (drop-set-lt f (take t l) i a h)
+
+  -- A part of a list after a run of stores: as it was where the run does not reach, and the run where it stands. One store is a run of one:
+  -- `set l i v` is `sets l i (v ∷ [])` by definition.
+  part-slice : (a k : ℕ) (l : List A) → take k (drop a l) ≡ drop a (take (a + k) l)
+  part-slice zero k l = rw (zero-add k) refl
+  part-slice (suc a) k [] = take-nil k ∙ ap (drop (suc a)) (sym (take-nil (suc a + k)))
+  part-slice (suc a) k (x ∷ l) = rw (suc-add a k) (part-slice a k l)
+
+  take-sets : (l : List A) (i : ℕ) (vs : List A) (n : ℕ) → n ≤ i → take n (sets l i vs) ≡ take n l
+  take-sets l i [] n h = refl
+  take-sets l i (v ∷ vs) n h = take-sets (set l i v) (suc i) vs n (omega arith) ∙ take-set-le n l i v h
+
+  drop-sets : (l : List A) (i : ℕ) (vs : List A) (n : ℕ) → i + length vs ≤ n → drop n (sets l i vs) ≡ drop n l
+  drop-sets l i [] n h = refl
+  drop-sets l i (v ∷ vs) n h = drop-sets (set l i v) (suc i) vs n (omega arith) ∙ drop-set-lt n l i v (omega arith)
+
+  pub part-before : (l : List A) (i : ℕ) (vs : List A) (a k : ℕ) → a + k ≤ i → take k (drop a (sets l i vs)) ≡ take k (drop a l)
+  part-before l i vs a k h = part-slice a k (sets l i vs) ∙ ap (drop a) (take-sets l i vs (a + k) h) ∙ sym (part-slice a k l)
+
+  pub part-behind : (l : List A) (i : ℕ) (vs : List A) (a k : ℕ) → i + length vs ≤ a → take k (drop a (sets l i vs)) ≡ take k (drop a l)
+  part-behind l i vs a k h = ap (take k) (drop-sets l i vs a h)
+
+  pub part-stored : (l : List A) (i : ℕ) (vs : List A) → i + length vs ≤ length l → take (length vs) (drop i (sets l i vs)) ≡ vs
+  part-stored l i vs h =
+      let rest = drop (i + length vs) l in
+      rw (sets-eq vs l i h, append-assoc (take i l) vs rest, drop-at (take i l) (vs ++ rest) i (length-take-le i l (omega arith))) (take-at vs rest (length vs) refl)

@@ -5,11 +5,8 @@ use mathlib.Core.Path.{_≡_, refl}
 use mathlib.Core.Bool.{Bool, true, false, cond}
 use mathlib.Core.List.{List, [], _∷_}
 use lib.ListN.{length}
-use lib.Dec.{leb, eqb}
-use borrow.Author.Tests.{eqb-true}
 use Rattle.geometry.specs.declared.Geometry.{Geometry}
-use Rattle.geometry.specs.Geometry.{inRange, InRange, bottom, room}
-use Rattle.geometry.specs.Bounds.{in-range}
+use Rattle.geometry.specs.Geometry.{bottom, room}
 use Rattle.geometry.specs.Places.{pagePlace, storeWords}
 use Rattle.geometry.specs.Apart.{page-inside, level-inside}
 use Rattle.slot.specs.declared.Pair.{Pair}
@@ -21,7 +18,7 @@ use Rattle.walk.specs.Passes.{fenceUpTo}
 use Rattle.walk.specs.Step.{headStep, pageStep, StepWithin}
 use Rattle.walk.specs.Read.{head-broken, head-tells, head-within, page-broken, page-first-broken, page-tells, page-within}
 use Rattle.walk.specs.Walk.{pages-in-room}
-use Rattle.index.specs.Opening.{opening, too-short, out-of-range, wrong-length}
+use Rattle.index.specs.Opening.{opening, opened-range, opened-length}
 use Rattle.locality.specs.Reads.{readOn, walkReads, unlessNone, pagesRead}
 
 -- Pages of level i and of the levels below it, each in its level's room and inside n words.
@@ -64,24 +61,6 @@ module _ (g : Geometry) (w : List ℕ) (asked : Pair) where
         (here .0, here .1, reads-inside m (suc i) (pageStep g w asked (suc i) (page .0)) (omega arith) (λ l. page-follows (suc i) (page .0) (omega arith)))
     reads-inside (suc m) i Nothing h k = tt
     reads-inside (suc m) i Broken h k = tt
-
--- The opening tests pass: the geometry is in range, the length exact.
-module _ (w : List ℕ) (opened : opening w ≡ 0) where
-  opened-tests : (inRange (geometryOf w) ≡ true) × (eqb (length w) (storeWords (geometryOf w)) ≡ true)
-  opened-tests = by (leb 9 (length w)) refl (inRange (geometryOf w)) refl (eqb (length w) (storeWords (geometryOf w))) refl
-    where
-      by : (a : Bool) → leb 9 (length w) ≡ a → (b : Bool) → inRange (geometryOf w) ≡ b → (c : Bool) →
-          eqb (length w) (storeWords (geometryOf w)) ≡ c → (b ≡ true) × (c ≡ true)
-      by false p b q c r = absurd (omega (arith, opened, too-short w p))
-      by true p false q c r = absurd (omega (arith, opened, out-of-range w p q))
-      by true p true q false r = absurd (omega (arith, opened, wrong-length w p q r))
-      by true p true q true r = (refl, refl)
-
-  pub opened-range : InRange (geometryOf w)
-  opened-range = in-range (geometryOf w) (opened-tests .0)
-
-  pub opened-length : length w ≡ storeWords (geometryOf w)
-  opened-length = eqb-true (length w) (storeWords (geometryOf w)) (opened-tests .1)
 
 pub reads-lie-inside : (w : List ℕ) (asked : Pair) → PagesInside (geometryOf w) (length w) 1 (pagesRead w asked)
 unfolding pagesRead walkReads

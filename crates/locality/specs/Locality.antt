@@ -11,11 +11,11 @@ use Rattle.rules.specs.Sound.{geometryOf}
 use Rattle.walk.specs.Walk.{walked}
 use Rattle.index.specs.declared.Asked.{Asked}
 use Rattle.index.specs.Reply.{Reply}
-use Rattle.index.specs.Opening.{openTests, opening}
+use Rattle.index.specs.Opening.{openTests, opening, opened-range}
 use Rattle.index.specs.Ask.{askReply, walkReply, askOf, ask-refused, ask-walked}
 use Rattle.replies.specs.Unique.{ask-has-one-answer}
 use Rattle.locality.specs.Reads.{walkReads, unlessNone, pagesRead, reads-few}
-use Rattle.locality.specs.Inside.{PagesInside, reads-lie-inside, opened-range}
+use Rattle.locality.specs.Inside.{PagesInside, reads-lie-inside}
 use Rattle.locality.specs.Agree.{Same, SamePages, same-geometry}
 use Rattle.locality.specs.Walks.{same-walk}
 

@@ -1,6 +1,6 @@
 -- The paper's section "Numbered replies, in order of test", call by call: the tests as a list in the paper's order, the two late ones included, and
 -- what a refusal gives: its number, zeros but for 6 the level first, and every lent word as it was. Assumes nothing.
-use Prim.Native.Nat.{ℕ, zero, suc}
+use Prim.Native.Nat.{ℕ}
 use mathlib.Core.Bool.{Bool, true, false, not, cond}
 use mathlib.Core.List.{List, [], _∷_, _++_}
 use lib.ListN.{getD}
@@ -144,8 +144,3 @@ editDone w work normal p =
 
 unfoldable pub editRefused : List ℕ → List ℕ → Fault → ℕ → Kept
 editRefused w work f n = kept n (levelTold n f ∷ 0 ∷ 0 ∷ 0 ∷ 0 ∷ 0 ∷ 0 ∷ []) w work
-
--- What a call gives, by the number of the first test that fails.
-abbrev pub byFirst : {A : Type 0} → ℕ → A → (ℕ → A) → A
-byFirst zero done refused = done
-byFirst (suc n) done refused = refused (suc n)

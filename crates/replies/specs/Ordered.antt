@@ -1,15 +1,13 @@
 -- Each call runs its tests in the paper's order: it does its work where every test passes, else it refuses with the number of the first that
 -- fails. Assumes nothing.
 use Prim.Native.Nat.{ℕ, zero, suc}
-use native.Mathlib.Omega.{arith}
 use mathlib.Core.Path.{_≡_, refl, sym, ap, _∙_}
-use mathlib.Core.Bool.{Bool, true, false, not, cond, _&&_}
+use mathlib.Core.Bool.{Bool, true, false, not, cond}
 use mathlib.Core.List.{List, [], _∷_, _++_}
 use lib.ListN.{getD}
 use lib.Dec.{ltb, eqb}
-use borrow.Author.Tests.{ltb-true, not-true}
-use Rattle.laws.specs.Tests.{and-left, and-right}
-use Rattle.laws.specs.Lists.{all, all-cons}
+use borrow.Author.Tests.{not-true}
+use Rattle.laws.specs.Lists.{all}
 use Rattle.geometry.specs.declared.Geometry.{Geometry}
 use Rattle.geometry.specs.Geometry.{most}
 use Rattle.geometry.specs.Places.{liveWord}
@@ -21,50 +19,14 @@ use Rattle.walk.specs.declared.Walked.{Walked}
 use Rattle.walk.specs.declared.Walked.the-variants.{Found, Fault as Fault-of-walk}
 use Rattle.walk.specs.Walk.{walked}
 use Rattle.change.specs.Change.{fillsHead, Changed, changedHead, changedTree, stayed, mergedChange, changeOf}
-use Rattle.index.specs.Reply.{Test, test, firstFailing}
+use Rattle.index.specs.Reply.{Test, test, firstFailing, byFirst, first-of-both, first-among}
 use Rattle.index.specs.Opening.{openTests, opening}
 use Rattle.index.specs.Ask.{walkReply, askOf, ask-refused, ask-walked}
 use Rattle.index.specs.Check.{faultReply, checkOf, check-refused, check-tested}
 use Rattle.index.specs.List.{filled, testedReply, listOf, list-refused, list-tested}
 use Rattle.index.specs.Format.{formatTests, formatAfter, formatOf}
 use Rattle.index.specs.Edit.{Kept, kept, zeros, faulty, changedReply, bothTests, openingBoth, putFound, dropFound, foundOf, afterWalk, editOf, putOf, dropOf, edit-refused, edit-walked}
-use Rattle.replies.specs.Order.{faultOf, heldBy, decider, wholeFault, belowMost, noneLiveFault, walkFault, pairHeld, wouldMerge, mergeFault, faultless, askTests, checkTests, listTests, putTests, dropTests, putFault, dropFault, levelTold, askDone, askRefused, checkDone, checkRefused, listDone, listRefused, formatDone, formatRefused, editDone, editRefused, byFirst}
-
--- The first test that fails -----------------------------------------------------------------------------------------------------------------
-
--- Where tests are followed by more, they decide first, if each of them has a number.
-abbrev numbered : Test → Bool
-numbered t = ltb 0 (t .number)
-
-first-of-both : (ts later : List Test) → all numbered ts ≡ true → firstFailing (ts ++ later) ≡ byFirst (firstFailing ts) (firstFailing later) (λ n. n)
-unfolding firstFailing
-first-of-both [] later e = refl
-first-of-both (t ∷ ts) later e =
-    by (t .passes) (t .number) (and-left (numbered t) (all numbered ts) parts) (first-of-both ts later (and-right (numbered t) (all numbered ts) parts))
-  where
-    parts : (numbered t && all numbered ts) ≡ true
-    parts = sym (all-cons numbered t ts) ∙ e
-
-    by : (b : Bool) (n : ℕ) → ltb 0 n ≡ true → firstFailing (ts ++ later) ≡ byFirst (firstFailing ts) (firstFailing later) (λ n. n) →
-        firstFailing (test b n ∷ (ts ++ later)) ≡ byFirst (firstFailing (test b n ∷ ts)) (firstFailing later) (λ n. n)
-    by true n p h = h
-    by false zero p h = absurd (omega (arith, ltb-true 0 0 p))
-    by false (suc n) p h = refl
-
--- The number replied is that of a test, or 0.
-first-among : (q : ℕ → Bool) (ts : List Test) → q 0 ≡ true → all (λ t. q (t .number)) ts ≡ true → q (firstFailing ts) ≡ true
-unfolding firstFailing
-first-among q [] z e = z
-first-among q (t ∷ ts) z e =
-    by (t .passes) (t .number) (and-left (q (t .number)) (all (λ t. q (t .number)) ts) parts)
-    (first-among q ts z (and-right (q (t .number)) (all (λ t. q (t .number)) ts) parts))
-  where
-    parts : (q (t .number) && all (λ t. q (t .number)) ts) ≡ true
-    parts = sym (all-cons (λ (t : Test). q (t .number)) t ts) ∙ e
-
-    by : (b : Bool) (n : ℕ) → q n ≡ true → q (firstFailing ts) ≡ true → q (firstFailing (test b n ∷ ts)) ≡ true
-    by true n p h = h
-    by false n p h = p
+use Rattle.replies.specs.Order.{faultOf, heldBy, decider, wholeFault, belowMost, noneLiveFault, walkFault, pairHeld, wouldMerge, mergeFault, faultless, askTests, checkTests, listTests, putTests, dropTests, putFault, dropFault, levelTold, askDone, askRefused, checkDone, checkRefused, listDone, listRefused, formatDone, formatRefused, editDone, editRefused}
 
 -- The opening tests --------------------------------------------------------------------------------------------------------------------------
 

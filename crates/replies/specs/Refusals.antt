@@ -6,13 +6,13 @@ use mathlib.Core.Bool.{true, false}
 use mathlib.Core.List.{List, [], _∷_}
 use Rattle.geometry.specs.declared.Geometry.{Geometry}
 use Rattle.slot.specs.declared.Pair.{Pair}
-use Rattle.index.specs.Reply.{Reply, firstFailing}
+use Rattle.index.specs.Reply.{Reply, firstFailing, byFirst}
 use Rattle.index.specs.Ask.{askOf}
 use Rattle.index.specs.Check.{checkOf}
 use Rattle.index.specs.List.{Filled, listOf}
 use Rattle.index.specs.Format.{formatTests, formatOf}
 use Rattle.index.specs.Edit.{Kept, putOf, dropOf}
-use Rattle.replies.specs.Order.{wholeFault, walkFault, putFault, dropFault, askTests, checkTests, listTests, putTests, dropTests, levelTold, askDone, askRefused, checkDone, checkRefused, listDone, listRefused, formatDone, formatRefused, editDone, editRefused, byFirst}
+use Rattle.replies.specs.Order.{wholeFault, walkFault, putFault, dropFault, askTests, checkTests, listTests, putTests, dropTests, levelTold, askDone, askRefused, checkDone, checkRefused, listDone, listRefused, formatDone, formatRefused, editDone, editRefused}
 use Rattle.replies.specs.Ordered.{ask-in-order, check-in-order, list-in-order, format-in-order, put-in-order, drop-in-order}
 
 -- A call x whose first failing test has the number n: it replies n, does its work where that is 0, and refuses with it otherwise.

@@ -9,6 +9,7 @@ use lib.ListN.{length, getD, take, drop, replicate, length-append, length-replic
 use lib.Seq.{take-at, drop-drop}
 use borrow.Author.Tests.{lt-ltb, le-ltb}
 use Rattle.laws.specs.Lists.{span, concat}
+use Rattle.laws.specs.Joined.{joined-length, joined-part, parts-joined}
 use Rattle.geometry.specs.declared.Geometry.{Geometry}
 use Rattle.geometry.specs.Geometry.{InRange, bottom, room}
 use Rattle.geometry.specs.Places.{erased, headStart, headRoom, levelStart, storeWords}
@@ -19,7 +20,6 @@ use Rattle.rules.specs.Level.{pagesFor}
 use Rattle.rules.specs.Store.{runWords, levelWords, pageCount, directory, laidOut}
 use Rattle.written.specs.Run.{wordsOfAll, words-length}
 use Rattle.written.specs.Pages.{levelPage, level-pages, level-page-length}
-use Rattle.stored.specs.Joined.{joined-length, joined-part, parts-joined}
 
 -- The words of a run of slots fill its room, where the slots do not pass it, and those of a level its room.
 pub run-words : (slots : List Slot) (n : ℕ) → length slots ≤ n → length (runWords slots n) ≡ 3 * n

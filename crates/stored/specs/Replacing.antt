@@ -10,6 +10,7 @@ use lib.ListN.{length, getD, take, drop, set, length-set}
 use lib.Seq.{sets, length-sets, take-set-lt, getD-set-same, getD-set-other}
 use lib.Dec.{ltb, eqb}
 use borrow.Author.Tests.{ltb-true, ltb-false, eqb-true, eqb-false}
+use Rattle.laws.specs.Sets.{part-before, part-behind, part-stored}
 use Rattle.geometry.specs.declared.Geometry.{Geometry}
 use Rattle.geometry.specs.Geometry.{InRange, room}
 use Rattle.geometry.specs.Places.{liveWord, pagesWord, headCountWord, headStart, headRoom, levelStart}
@@ -19,7 +20,6 @@ use Rattle.rules.specs.Level.{pagesFor}
 use Rattle.rules.specs.Store.{runWords, levelWords, pageCount, directory, laidOut}
 use Rattle.rules.specs.Good.{SlotsFit, Fits}
 use Rattle.stored.specs.Parts.{Parts, run-words, level-words, laid-parts, parts-laid, page-count}
-use Rattle.stored.specs.Sets.{part-before, part-behind, part-stored}
 
 -- Another number of live pairs.
 pub live-replaced : (g : Geometry) (live : ℕ) (ss : List (List Slot)) (n : ℕ) → set (laidOut g live ss) liveWord n ≡ laidOut g n ss

@@ -3,7 +3,8 @@ use Prim.Native.Nat.{ℕ}
 use mathlib.Core.Path.{ap}
 use mathlib.Core.List.{List, _∷_}
 use native.Mathlib.Omega.{arith}
-use Rattle.landing.specs.Numbers.{replied, four-words}
+use Rattle.laws.specs.Lists.{four-words}
+use Rattle.landing.specs.Numbers.{replied}
 use borrow.Author.Needs.{needs}
 use Rattle.landing.proofs.tell_seven.Statement.{statement}
 use Rattle.landing.proofs.tell_seven.Tie as tie
