@@ -14,8 +14,8 @@ use Rattle.slot.specs.Pair.{rank, least, least-first}
 use Rattle.rules.specs.Level.{external, pagesFor, firstOf, fenceOf, fences}
 use Rattle.rules.specs.Pages.{pages-some, pages-inside}
 use Rattle.rules.specs.Sound.{fencePages, legal}
+use Rattle.rules.specs.Woven.{fence, fence-kind, fences-all, pages-fence}
 use Rattle.finding.specs.Rising.{weight, Rising, weight-least, weight-most, rising-at, rising-apart, rising-span}
-use Rattle.finding.specs.Woven.{fence, pages-fence}
 
 -- The fences over the levels below, whose slots are given, and the number of pages that they name.
 unfoldable pub fencesOver : List (List Slot) → List Slot
@@ -26,13 +26,8 @@ unfoldable pub pagesUnder : List (List Slot) → ℕ
 pagesUnder [] = 0
 pagesUnder (below ∷ ss) = pagesFor (length below)
 
--- A fence over the pages below: its kind, its page and its weight.
+-- A fence over the pages below: its page and its weight.
 module _ (first : ℕ → Pair) where
-  fence-kind : (k : ℕ) → fence (fenceOf first k) ≡ true
-  unfolding fenceOf external
-  fence-kind zero = refl
-  fence-kind (suc k) = refl
-
   fence-page : (k : ℕ) → (fenceOf first k) .page .0 ≡ k
   unfolding fenceOf external
   fence-page zero = refl
@@ -54,7 +49,7 @@ module _ (first : ℕ → Pair) where
 pub fences-only : (ss : List (List Slot)) → all fence (fencesOver ss) ≡ true
 unfolding fencesOver fences all
 fences-only [] = refl
-fences-only (below ∷ ss) = all-span fence (fenceOf (firstOf below)) 0 (pagesFor (length below)) (λ k h. fence-kind (firstOf below) k)
+fences-only (below ∷ ss) = fences-all (firstOf below) 0 (pagesFor (length below))
 
 pub fences-legal : (ss : List (List Slot)) → all (legal false (pagesUnder ss)) (fencesOver ss) ≡ true
 unfolding fencesOver fences pagesUnder all

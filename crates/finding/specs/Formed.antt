@@ -26,8 +26,8 @@ use Rattle.rules.specs.Reading.{Reads}
 use Rattle.walk.specs.Passes.{pages-of}
 use Rattle.entries.specs.Levels.{pages-none}
 use Rattle.finding.specs.Rising.{rising-take, rising-drop, rising-order}
-use Rattle.finding.specs.Woven.{entries-woven, fence-pages-woven}
 use Rattle.rules.specs.Pages.{pages-some, pages-inside}
+use Rattle.rules.specs.Woven.{entries-woven, fence-pages-woven}
 use Rattle.finding.specs.Fences.{fencesOver, pagesUnder, fences-only, fences-pages}
 use Rattle.finding.specs.Rows.{Row, Rows, woven-legal, woven-rising, woven-first, least-fence-first, head-woven, lower-rows, row-below, some-slot, pages-at, pages-past}
 

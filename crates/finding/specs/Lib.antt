@@ -1,7 +1,7 @@
 -- The walk finds what the tree holds. Each module uses only those above it.
 --
 --   Rising    slots weigh by pair and kind; a level's weights rise, so slots a page apart differ in pair
---   Woven     entries woven with fences
+--   Woven     the weights of entries woven with fences
 --   Paged     a row cut into pages with its internal fences
 --   Fences    the fences over a level
 --   Rows      the rows of a tree whose levels ascend

@@ -20,8 +20,8 @@ use Rattle.rules.specs.Level.{external, pagesFor, pageOf, firstOf}
 use Rattle.rules.specs.Finding.{Told, follow, nothing, tell}
 use Rattle.rules.specs.Sound.{legal, firstIsLeast, firstRight}
 use Rattle.finding.specs.Rising.{weight, Rising, weight-least, weight-most, entry-weight, rising-take, rising-drop}
-use Rattle.finding.specs.Woven.{fence}
 use Rattle.rules.specs.Pages.{pages-inside, pages-reach}
+use Rattle.rules.specs.Woven.{fence}
 use Rattle.finding.specs.Rows.{Row, some-slot}
 use Rattle.finding.specs.Telling.{tellOn, by-slot, on-above, on-fence, on-entry, on-past, tell-forward}
 use Rattle.finding.specs.RowTold.{Leads}

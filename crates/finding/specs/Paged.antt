@@ -4,11 +4,10 @@ use Prim.Native.Nat.{ℕ, zero, suc, _+_, _*_, _%_, _<_}
 use native.Mathlib.Omega.{arith}
 use mathlib.Core.Path.{_≡_, refl}
 use mathlib.Core.Logic.{_≢_}
-use mathlib.Core.Bool.{Bool, true, false, false≢true}
-use mathlib.Core.List.{List, [], _∷_}
+use mathlib.Core.Bool.{true, false, false≢true}
+use mathlib.Core.List.{List, _∷_}
 use lib.ListN.{length, getD}
-use lib.Dec.{eqb}
-use borrow.Author.Tests.{lt-ltb, ltb-true, eqb-true, eqb-false}
+use borrow.Author.Tests.{lt-ltb, ltb-true}
 use Rattle.laws.specs.Lists.{all}
 use Rattle.laws.specs.Flat.{all-first, all-rest, all-join}
 use Rattle.slot.specs.declared.Slot.{Slot}
@@ -17,37 +16,9 @@ use Rattle.slot.specs.declared.Kind.the-variants.{Normal, Filter, External, Int
 use Rattle.slot.specs.Pair.{rank}
 use Rattle.rules.specs.Level.{internal, fenceKind, paged}
 use Rattle.rules.specs.Sound.{legal, legalKind}
+use Rattle.rules.specs.Woven.{fence}
+use Rattle.rules.specs.Paged.{by-paging}
 use Rattle.finding.specs.Rising.{turn, weight, Rising, entry-weight}
-use Rattle.finding.specs.Woven.{fence}
-
--- What holds of no slots, and goes on holding where a fence, an index entry within a page, or one that opens a page is put first, holds
--- of a row cut into pages.
-pub by-paging : (Q : ℕ → ℕ → List Slot → List Slot → Type 0) → ((j last : ℕ) → Q j last [] []) →
-    ((j last : ℕ) (s : Slot) (ss row : List Slot) → fence s ≡ true → Q ((j + 1) % 21) (s .page .0) ss row → Q j last (s ∷ ss) (s ∷ row)) →
-    ((last : ℕ) (s : Slot) (ss row : List Slot) → fence s ≡ false → Q 2 last ss row → Q 0 last (s ∷ ss) (internal (s .pair) last ∷ s ∷ row)) →
-    ((j last : ℕ) (s : Slot) (ss row : List Slot) → fence s ≡ false → j ≢ 0 → Q ((j + 1) % 21) last ss row → Q j last (s ∷ ss) (s ∷ row)) →
-    (j last : ℕ) (ss : List Slot) → Q j last ss (paged j last ss)
-unfolding paged
-by-paging Q none fence-first opening within j last [] = none j last
-by-paging Q none fence-first opening within j last (s ∷ ss) =
-    chosen (fenceKind (s .kind)) refl (by-paging Q none fence-first opening within ((j + 1) % 21) (s .page .0) ss)
-    (by-paging Q none fence-first opening within 2 last ss) (by-paging Q none fence-first opening within ((j + 1) % 21) last ss)
-  where
-    opened : (b : Bool) → eqb j 0 ≡ b → fenceKind (s .kind) ≡ false → Q 2 last ss (paged 2 last ss) → Q ((j + 1) % 21) last ss (paged ((j + 1) % 21) last ss) →
-        Q j last (s ∷ ss) (elim b [ true ↦ internal (s .pair) last ∷ s ∷ paged 2 last ss | false ↦ s ∷ paged ((j + 1) % 21) last ss ])
-    opened true e k ih ih′ =
-        let z : j ≡ 0 = eqb-true j 0 e in
-        rw z (opening last s ss (paged 2 last ss) k ih)
-    opened false e k ih ih′ = within j last s ss (paged ((j + 1) % 21) last ss) k (eqb-false j 0 e) ih′
-
-    chosen : (b : Bool) → fenceKind (s .kind) ≡ b → Q ((j + 1) % 21) (s .page .0) ss (paged ((j + 1) % 21) (s .page .0) ss) → Q 2 last ss (paged 2 last ss) →
-        Q ((j + 1) % 21) last ss (paged ((j + 1) % 21) last ss) →
-        Q j last (s ∷ ss) (elim b [
-          | true ↦ s ∷ paged ((j + 1) % 21) (s .page .0) ss
-          | false ↦ elim (eqb j 0) [ true ↦ internal (s .pair) last ∷ s ∷ paged 2 last ss | false ↦ s ∷ paged ((j + 1) % 21) last ss ]
-        ])
-    chosen true e a b c = fence-first j last s ss (paged ((j + 1) % 21) (s .page .0) ss) e a
-    chosen false e a b c = opened (eqb j 0) refl e b c
 
 -- A slot of a row that is not cut into pages: its fences are external, so a fence names a page below.
 legal-inner : (below : ℕ) (s : Slot) → legal false below s ≡ true → legal true below s ≡ true

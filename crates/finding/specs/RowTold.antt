@@ -17,9 +17,9 @@ use Rattle.rules.specs.Level.{index, external, internal, pagesFor, firstOf, fen
 use Rattle.rules.specs.Sound.{ascending}
 use Rattle.rules.specs.Finding.{Met, absent, met, find, Told, decided, follow, nothing}
 use Rattle.entries.specs.Ascending.{From, from-ascending, find-here, find-on, find-above}
-use Rattle.finding.specs.Woven.{fence, index-entry, index-normal, StandsFirst, by-weaving}
-use Rattle.finding.specs.Paged.{by-paging}
 use Rattle.rules.specs.Pages.{pages-some}
+use Rattle.rules.specs.Woven.{fence, index-entry, index-normal, StandsFirst, by-weaving}
+use Rattle.rules.specs.Paged.{by-paging}
 use Rattle.finding.specs.Fences.{fencesOver, fences-only, fences-first}
 use Rattle.finding.specs.Rows.{rowOn, woven-first, paged-least}
 use Rattle.finding.specs.Telling.{tellOn, by-slot, on-above, on-fence, on-entry, on-past}

@@ -15,9 +15,10 @@ use Rattle.rules.specs.Tree.{Level, Tree, level}
 use Rattle.rules.specs.Level.{index, external, pagesFor, firstOf, fenceOf, place, weave, paged, over, layOn, laid, headOn, slotsOf}
 use Rattle.rules.specs.Sound.{legal, firstIsLeast, ascending}
 use Rattle.finding.specs.Rising.{Rising}
-use Rattle.finding.specs.Woven.{fence, index-legal, all-woven, rising-entries, rising-woven}
+use Rattle.finding.specs.Woven.{rising-entries, rising-woven}
 use Rattle.finding.specs.Paged.{legal-paged, rising-paged, fence-opens}
 use Rattle.rules.specs.Pages.{pages-some}
+use Rattle.rules.specs.Woven.{fence, index-legal, all-woven}
 use Rattle.finding.specs.Fences.{fencesOver, pagesUnder, fences-only, fences-legal, bottom-legal, fences-rising, fences-first}
 
 -- The row of a level over those below it.

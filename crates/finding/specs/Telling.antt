@@ -13,8 +13,8 @@ use Rattle.slot.specs.Pair.{rank, before, same}
 use Rattle.slot.specs.Order.{before-below, same-level, below-before}
 use Rattle.rules.specs.Level.{fenceKind}
 use Rattle.rules.specs.Finding.{Told, decided, follow, nothing, normalKind, atMost, stepBack, tellFrom, tell}
+use Rattle.rules.specs.Woven.{fence}
 use Rattle.finding.specs.Rising.{weight, Rising, weight-least, weight-most, entry-weight}
-use Rattle.finding.specs.Woven.{fence}
 
 -- What is told where the fences before tell `last`. A slot above the pair ends it.
 unfoldable pub tellOn : Pair → Told → List Slot → Told

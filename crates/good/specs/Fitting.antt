@@ -1,17 +1,17 @@
 -- The slots of a writing fit their words: pairs that are words, and page numbers far below 2³⁰. Assumes nothing.
-use Prim.Native.Nat.{ℕ, zero, suc, _+_, _*_, _%_, _≤_, _<_, _^_}
+use Prim.Native.Nat.{ℕ, zero, suc, _+_, _*_, _≤_, _<_, _^_}
 use native.Mathlib.Omega.{arith}
-use mathlib.Core.Bool.{Bool, true, false}
 use mathlib.Core.List.{List, [], _∷_, map}
 use lib.ListN.{length, getD}
-use lib.Dec.{eqb}
 use Rattle.laws.specs.Lists.{span}
 use Rattle.slot.specs.declared.Slot.{Slot}
-use Rattle.slot.specs.Pair.{least, before, Words, least-fits}
+use Rattle.slot.specs.Pair.{least, Words, least-fits}
 use Rattle.rules.specs.Tree.{Entry, Level, Tree}
-use Rattle.rules.specs.Level.{index, external, internal, fenceKind, pagesFor, firstOf, fenceOf, fences, place, weave, paged, over, laid}
+use Rattle.rules.specs.Level.{index, external, internal, pagesFor, firstOf, fenceOf, fences, weave, paged, over, laid}
+use Rattle.rules.specs.Woven.{by-weaving}
+use Rattle.rules.specs.Paged.{by-paging}
+use Rattle.rules.specs.Laid.{laid-above, laid-alone}
 use Rattle.rules.specs.Good.{LevelFits, TreeFits, SlotFits, SlotsFit}
-use Rattle.good.specs.Pages.{laid-above, laid-bottom}
 
 -- An index entry's slot, and a level's without fences.
 index-fits : (e : Entry) → Words (e .pair) → SlotFits (index e)
@@ -46,39 +46,24 @@ fences-fit below i zero h a = tt
 fences-fit below i (suc n) h a = (fence-fits below i (omega arith) a, fences-fit below (suc i) n (omega arith) a)
 
 -- Entries woven among them.
-place-fits : (e : Entry) (rest : List Slot → List Slot) → Words (e .pair) → ((fs : List Slot) → SlotsFit fs → SlotsFit (rest fs)) →
-    (fs : List Slot) → SlotsFit fs → SlotsFit (place e rest fs)
-unfolding place SlotsFit
-place-fits e rest w r [] a = (index-fits e w, r [] tt)
-place-fits e rest w r (f ∷ fs) a = stands (before (e .pair) (f .pair)) (place-fits e rest w r fs (a .1))
-  where
-    stands : (b : Bool) → SlotsFit (place e rest fs) → SlotsFit (elim b [ true ↦ index e ∷ rest (f ∷ fs) | false ↦ f ∷ place e rest fs ])
-    stands true h = (index-fits e w, r (f ∷ fs) a)
-    stands false h = (a .0, h)
-
 weave-fits : (es : Level) (fs : List Slot) → LevelFits es → SlotsFit fs → SlotsFit (weave es fs)
-unfolding weave LevelFits
-weave-fits [] fs a b = b
-weave-fits (e ∷ es) fs a b = place-fits e (weave es) (a .0) (λ gs c. weave-fits es gs (a .1) c) fs b
+unfolding LevelFits SlotsFit
+weave-fits =
+    by-weaving (λ es fs row. LevelFits es → SlotsFit fs → SlotsFit row) (λ fs a b. b) (λ e es fs row c ih a b. (index-fits e (a .0), ih (a .1) b))
+    (λ e es f fs row c ih a b. (b .0, ih a (b .1)))
 
 pub over-fits : (es : Level) (below : List Slot) → pagesFor (length below) ≤ 2 ^ 30 → LevelFits es → SlotsFit below → SlotsFit (over es below)
 unfolding over fences
 over-fits es below h a b = weave-fits es (fences (firstOf below) (pagesFor (length below))) a (fences-fit below 0 (pagesFor (length below)) (omega arith) b)
 
 -- Internal fences put in.
-paged-fits : (ss : List Slot) (j last : ℕ) → last < 2 ^ 30 → SlotsFit ss → SlotsFit (paged j last ss)
-unfolding paged SlotsFit internal
-paged-fits [] j last h a = tt
-paged-fits (s ∷ ss) j last h a = written (fenceKind (s .kind)) (eqb j 0) (λ k next n. paged-fits ss k next n (a .1))
-  where
-    written : (f z : Bool) → ((k next : ℕ) → next < 2 ^ 30 → SlotsFit (paged k next ss)) →
-        SlotsFit (elim f [
-          | true ↦ s ∷ paged ((j + 1) % 21) (s .page .0) ss
-          | false ↦ elim z [ true ↦ internal (s .pair) last ∷ s ∷ paged 2 last ss | false ↦ s ∷ paged ((j + 1) % 21) last ss ]
-        ])
-    written true z rest = (a .0, rest ((j + 1) % 21) (s .page .0) (a .0 .page))
-    written false true rest = (record { pair = a .0 .pair; page = h }, (a .0, rest 2 last h))
-    written false false rest = (a .0, rest ((j + 1) % 21) last h)
+paged-fits : (j last : ℕ) (ss : List Slot) → last < 2 ^ 30 → SlotsFit ss → SlotsFit (paged j last ss)
+unfolding SlotsFit internal
+paged-fits =
+    by-paging (λ j last ss row. last < 2 ^ 30 → SlotsFit ss → SlotsFit row) (λ j last h a. tt)
+    (λ j last s ss row k ih h a. (a .0, ih (a .0 .page) (a .1)))
+    (λ last s ss row k ih h a. (record { pair = a .0 .pair; page = h }, (a .0, ih h (a .1))))
+    (λ j last s ss row k n ih h a. (a .0, ih h (a .1)))
 
 -- The slots of every level.
 abbrev FewPages : Tree → Type 0
@@ -87,8 +72,8 @@ FewPages t = (i : ℕ) → pagesFor (length (getD (laid t) i [])) ≤ 2 ^ 30
 pub laid-fits : (t : Tree) → TreeFits t → FewPages t → (i : ℕ) → SlotsFit (getD (laid t) i [])
 unfolding TreeFits SlotsFit laid
 laid-fits [] a few i = tt
-laid-fits (es ∷ []) a few zero = rw (laid-bottom es) (entries-fit es (a .0))
-laid-fits (es ∷ []) a few (suc i) = rw (laid-bottom es) tt
+laid-fits (es ∷ []) a few zero = rw (laid-alone es) (entries-fit es (a .0))
+laid-fits (es ∷ []) a few (suc i) = rw (laid-alone es) tt
 laid-fits (es ∷ ds ∷ t) a few i = row i fewer (laid-fits (ds ∷ t) (a .1) fewer)
   where
     fewer : FewPages (ds ∷ t)
@@ -97,5 +82,5 @@ laid-fits (es ∷ ds ∷ t) a few i = row i fewer (laid-fits (ds ∷ t) (a .1) f
     row : (j : ℕ) → FewPages (ds ∷ t) → ((k : ℕ) → SlotsFit (getD (laid (ds ∷ t)) k [])) → SlotsFit (getD (laid (es ∷ ds ∷ t)) j [])
     row zero n fit =
         let below = getD (laid (ds ∷ t)) 0 [] in
-        rw (laid-above es ds t) (paged-fits (over es below) 0 0 (omega arith) (over-fits es below (n 0) (a .0) (fit 0)))
+        rw (laid-above es ds t) (paged-fits 0 0 (over es below) (omega arith) (over-fits es below (n 0) (a .0) (fit 0)))
     row (suc j) n fit = rw (laid-above es ds t) (fit j)

@@ -17,7 +17,8 @@ use Rattle.rules.specs.Tree.{Level, Tree, level}
 use Rattle.rules.specs.Level.{index, pagesFor, paged, over, laid, headOn, slotsOf}
 use Rattle.rules.specs.Good.{TreeFits, Roomy, SlotsFit, Fits}
 use Rattle.rules.specs.Pages.{pages-some}
-use Rattle.good.specs.Pages.{over-length, paged-pages, pages-within, laid-length, laid-above, laid-bottom, head-over}
+use Rattle.rules.specs.Laid.{laid-length, laid-above, head-over, laid-alone}
+use Rattle.good.specs.Pages.{over-length, paged-pages, pages-within}
 use Rattle.good.specs.Fitting.{over-fits, laid-fits}
 
 -- A level without slots has one page.
@@ -45,7 +46,7 @@ module _ (g : Geometry) (fit : InRange g) where
       ((j : ℕ) → suc j ≡ length t → length (level j t) ≤ most g) → (j : ℕ) → j < length t → pagesFor (length (getD (laid t) j [])) ≤ room g (i + j)
   laid-rooms [] i h l u m j b = absurd (omega arith)
   laid-rooms (es ∷ []) i h l u m zero b =
-      rw (laid-bottom es, length-map es index, add-zero i) (bottom-pages i (length es) h (omega (arith, l)) (m 0 refl))
+      rw (laid-alone es, length-map es index, add-zero i) (bottom-pages i (length es) h (omega (arith, l)) (m 0 refl))
   laid-rooms (es ∷ []) i h l u m (suc j) b = absurd (omega arith)
   laid-rooms (es ∷ ds ∷ t) i h l u m j b =
       row j b (laid-rooms (ds ∷ t) (suc i) (omega arith) (omega (arith, l)) (λ k c. rw (suc-add i k, ← add-suc i k) (u (suc k) (omega arith)))

@@ -1,7 +1,7 @@
 -- Format on any words: the paper's numbers for what src/lib.rt answers, with every word of the store afterwards, as a total function of the
 -- store's words and the geometry given. Assumes nothing.
 use Prim.Native.Nat.{ℕ, zero, suc}
-use mathlib.Core.Path.{_≡_}
+use mathlib.Core.Path.{_≡_, refl}
 use mathlib.Core.Bool.{true, false}
 use mathlib.Core.List.{List, [], _∷_}
 use lib.ListN.{length}
@@ -20,6 +20,11 @@ abbrev pub formatReply : Formatted → List ℕ → Filled
 formatReply Done words = filled 0 (0 ∷ []) words
 formatReply Range words = filled 1 (0 ∷ []) words
 formatReply Length words = filled 5 (0 ∷ []) words
+
+pub format-leaves : (a : Formatted) (words : List ℕ) → (formatReply a words) .words ≡ words
+format-leaves Done words = refl
+format-leaves Range words = refl
+format-leaves Length words = refl
 
 -- The numbers given are tested before any length.
 unfoldable pub formatTests : List ℕ → Geometry → List Test

@@ -19,7 +19,7 @@ use Rattle.index.specs.Reply.{Reply}
 use Rattle.index.specs.Ask.{askReply, askOf}
 use Rattle.index.specs.Check.{checkReply, checkOf}
 use Rattle.index.specs.List.{Filled, listReply, listOf}
-use Rattle.index.specs.Format.{formatReply, formatOf}
+use Rattle.index.specs.Format.{formatReply, format-leaves, formatOf}
 
 -- A choice by the reply's number: 0, 1, and 5 or 6 told apart by whether it is 5.
 pick : {A : Type 0} → ℕ → A → A → A → A → A
@@ -92,14 +92,9 @@ format-told Done-of-format words = refl
 format-told Range-of-format words = refl
 format-told Length-of-format words = refl
 
-store-told : (a : Formatted) (words : List ℕ) → (formatReply a words) .words ≡ words
-store-told Done-of-format words = refl
-store-told Range-of-format words = refl
-store-told Length-of-format words = refl
-
 pub format-has-one-answer : (w : List ℕ) (g : Geometry) (a b : Formatted) (v u : List ℕ) → formatReply a v ≡ formatOf w g → formatReply b u ≡ formatOf w g →
     (a ≡ b) × (v ≡ u)
 format-has-one-answer w g a b v u p q = (
   sym (format-told a v) ∙ ap formattedBy (p ∙ sym q) ∙ format-told b u,
-  sym (store-told a v) ∙ ap (λ (f : Filled). f .words) (p ∙ sym q) ∙ store-told b u,
+  sym (format-leaves a v) ∙ ap (λ (f : Filled). f .words) (p ∙ sym q) ∙ format-leaves b u,
 )

@@ -1,5 +1,5 @@
 -- The paper's section "Finding": what a tree holds, and the walk over its slots that finds it. Assumes nothing.
-use Prim.Native.Nat.{ℕ, zero, suc, _+_}
+use Prim.Native.Nat.{ℕ, suc, _+_}
 use mathlib.Core.Bool.{Bool, true, false, not, _&&_}
 use mathlib.Core.List.{List, [], _∷_, reverse}
 use lib.ListN.{length}
@@ -9,7 +9,7 @@ use Rattle.slot.specs.declared.Slot.{Slot}
 use Rattle.slot.specs.declared.Kind.{Kind}
 use Rattle.slot.specs.declared.Kind.the-variants.{Normal, Filter, External, Internal}
 use Rattle.slot.specs.Pair.{before, same}
-use Rattle.rules.specs.Tree.{Entry, Level, Tree}
+use Rattle.rules.specs.Tree.{Level, Tree}
 use Rattle.rules.specs.Level.{fenceKind, pageOf}
 
 -- The entry of a pair in a level: none, or whether it is normal.

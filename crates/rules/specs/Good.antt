@@ -1,5 +1,5 @@
 -- Good states: what every state reached from a formatted store is, and what a cascade of merges keeps on its way. Assumes nothing.
-use Prim.Native.Nat.{ℕ, suc, _≤_, _<_, _^_}
+use Prim.Native.Nat.{ℕ, _≤_, _<_, _^_}
 use mathlib.Core.Path.{_≡_}
 use mathlib.Core.Bool.{true}
 use mathlib.Core.List.{List, [], _∷_}

@@ -9,6 +9,9 @@
 --   Store     the writing of a whole store, word by word
 --   Sound     "Sound stores"
 --   Pages     laws of the number of pages that slots take
+--   Woven     laws of entries woven with fences
+--   Paged     laws of a row cut into pages
+--   Laid      laws of the slots of a tree
 --   Good      good states, and what a cascade of merges keeps
 --   Reading   what reading a store laid out in slots gives
 --   Requests  requests one after another
@@ -22,6 +25,9 @@ pub mod Listing
 pub mod Store
 pub mod Sound
 pub mod Pages
+pub mod Woven
+pub mod Paged
+pub mod Laid
 pub mod Good
 pub mod Reading
 pub mod Requests

@@ -1,14 +1,14 @@
 -- The paper's section "List": the held pairs from a first to a second, as many as a slice has room for. Assumes nothing.
 use Prim.Native.Nat.{ℕ, _+_, _*_, _/_}
-use mathlib.Core.Bool.{Bool, true, false, not, _&&_}
-use mathlib.Core.List.{List, [], _∷_, _++_}
+use mathlib.Core.Bool.{true, false, not, _&&_}
+use mathlib.Core.List.{List, [], _∷_}
 use lib.ListN.{length, take}
 use lib.Seq.{sets}
 use lib.Dec.{ltb}
 use Rattle.laws.specs.Lists.{passing}
 use Rattle.slot.specs.declared.Pair.{Pair}
 use Rattle.slot.specs.Pair.{before, same}
-use Rattle.rules.specs.Tree.{Entry, Level, Tree}
+use Rattle.rules.specs.Tree.{Level, Tree}
 use Rattle.rules.specs.Finding.{held}
 
 -- The pairs that a tree has entries of, ascending, each once.

@@ -1,8 +1,8 @@
 -- The paper's section "Sound stores", on any words: what put, drop and ask look at, and the whole-store test with the level that reply 6
 -- tells. The geometry is in range and the length right. Assumes nothing.
-use Prim.Native.Nat.{ℕ, zero, suc, _+_, _-_, _*_, min}
+use Prim.Native.Nat.{ℕ, zero, suc, _+_, _*_, min}
 use mathlib.Core.Bool.{Bool, true, false, not, _&&_, _||_, Bool·beq}
-use mathlib.Core.List.{List, [], _∷_, _++_, map}
+use mathlib.Core.List.{List, [], _∷_, map}
 use lib.ListN.{length, getD, take, drop}
 use lib.Dec.{ltb, leb, eqb}
 use Rattle.laws.specs.Lists.{span, concat, passing, all, equal}
@@ -15,7 +15,7 @@ use Rattle.slot.specs.declared.Kind.{Kind}
 use Rattle.slot.specs.declared.Kind.the-variants.{Normal, Filter, External, Internal}
 use Rattle.slot.specs.Pair.{least, before, same}
 use Rattle.slot.specs.Slot.{slotAt}
-use Rattle.rules.specs.Tree.{Entry, Level, Tree}
+use Rattle.rules.specs.Tree.{Level, Tree}
 use Rattle.rules.specs.Level.{index, fenceKind, pagesFor, fences, weave, paged}
 use Rattle.rules.specs.Finding.{normalKind, held}
 use Rattle.rules.specs.Store.{runWords, levelWords}

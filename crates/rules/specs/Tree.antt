@@ -1,6 +1,6 @@
 -- Index entries, and the tree as lists of them: level 0 is the head, the last the bottom. Assumes nothing.
 use Prim.Native.Nat.{ℕ}
-use mathlib.Core.Bool.{Bool, true, false}
+use mathlib.Core.Bool.{Bool}
 use mathlib.Core.List.{List, []}
 use lib.ListN.{getD}
 use Rattle.slot.specs.declared.Pair.{Pair}

@@ -11,11 +11,8 @@ use Rattle.index.specs.declared.Edited.{Edited}
 use Rattle.index.specs.declared.Edited.the-variants.{Done, Range, Length, Fault, Held, Missing, Full}
 use Rattle.index.specs.declared.Asked.{Asked}
 use Rattle.index.specs.declared.Asked.the-variants.{Answer, Range as RangeAsked, Length as LengthAsked, Fault as FaultAsked}
-use Rattle.index.specs.declared.Formatted.{Formatted}
-use Rattle.index.specs.declared.Formatted.the-variants.{Done as DoneFormat, Range as RangeFormat, Length as LengthFormat}
 use Rattle.index.specs.Ask.{askReply}
 use Rattle.index.specs.Edit.{Kept, editReply}
-use Rattle.index.specs.Format.{formatReply}
 use Rattle.sheet_text.specs.Text.{heldNumber}
 use Rattle.sheet_text.specs.Counts.{Left, refused, accepted}
 
@@ -59,11 +56,6 @@ ask-told (Answer held level) = refl
 ask-told RangeAsked = refl
 ask-told LengthAsked = refl
 ask-told (FaultAsked level) = refl
-
-pub format-leaves : (a : Formatted) (words : List ℕ) → (formatReply a words) .words ≡ words
-format-leaves DoneFormat words = refl
-format-leaves RangeFormat words = refl
-format-leaves LengthFormat words = refl
 
 -- What an answer tells of a reply k that it is equal to.
 pub record Tells (a : Edited) (counts store work : List ℕ) (k : Kept) : Type 0 where

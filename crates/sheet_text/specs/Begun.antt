@@ -13,10 +13,9 @@ use Rattle.geometry.specs.Places.{roomBefore, levelStart, storeWords, workWords
 use Rattle.geometry.specs.Lent.{plan-words}
 use Rattle.index.specs.declared.Formatted.{Formatted}
 use Rattle.index.specs.List.{Filled}
-use Rattle.index.specs.Format.{formatReply, formatOf}
+use Rattle.index.specs.Format.{formatReply, formatOf, format-leaves}
 use Rattle.reading.specs.Sheet.{faulty, judged, mostWords}
 use Rattle.sheet_text.specs.Text.{line, lineName, firstStore, firstWork, judgedText, sheetOf, textRoom, printedIn}
-use Rattle.sheet_text.specs.Answers.{format-leaves}
 use Rattle.sheet_text.specs.Printed.{Printed, Within, printed-none}
 
 -- So many zeros, and the first of them.

@@ -20,9 +20,10 @@ use Rattle.rules.specs.Store.{runWords, levelWords, directory}
 use Rattle.rules.specs.Sound.{pagesOf, headSlots, levelSlots, entriesOf, firstAt, treeOf, directoryRight, headRight, pageFormed, ascending, levelLaid, levelSound, headSound}
 use Rattle.rules.specs.Good.{Good, Fits}
 use Rattle.rules.specs.Reading.{Reads}
+use Rattle.rules.specs.Laid.{slots-head, slots-upper, slots-bottom}
 use Rattle.stored.specs.Parts.{Parts}
 use Rattle.stored.specs.Reading.{parts-read}
-use Rattle.stored.specs.Slots.{slots-level, slots-head, slots-upper, slots-bottom}
+use Rattle.stored.specs.Slots.{slots-level}
 use Rattle.stored.specs.Back.{tree-read}
 use Rattle.stored.specs.Over.{laid-bare, woven-over, laid-over}
 use Rattle.stored.specs.Passed.{Passed}

@@ -23,12 +23,12 @@ use Rattle.rules.specs.Level.{index, pagesFor, fences, weave, slotsOf}
 use Rattle.rules.specs.Store.{runWords, levelWords, pageCount, directory}
 use Rattle.rules.specs.Sound.{geometryOf, pagesOf, headSlots, levelSlots, entriesOf, firstAt, treeOf, pagesRight, directoryRight, inOrder, headRight, pageFormed, ascending, levelLaid, withinCapacity, levelSound, headSound}
 use Rattle.rules.specs.Good.{Good}
+use Rattle.rules.specs.Laid.{slots-head, slots-upper, slots-bottom}
 use Rattle.written.specs.Inside.{pages-right, level-places}
 use Rattle.entries.specs.Levels.{pages-there}
 use Rattle.entries.specs.Ascending.{levelsAscend}
 use Rattle.entries.specs.Ready.{tree-ascends}
 use Rattle.stored.specs.Parts.{Parts, page-count, no-page-count}
-use Rattle.stored.specs.Slots.{slots-head, slots-upper, slots-bottom}
 use Rattle.stored.specs.Back.{stateOf, tree-length, tree-head, tree-level}
 use Rattle.stored.specs.Over.{laid-bare, woven-over, laid-over}
 use Rattle.stored.specs.Passed.{Passed}
