@@ -4,9 +4,7 @@
 --   Woven     an entry toggled in a row of slots
 --   Run       a slot put into a run in words, or taken out
 --   Written   the head edited in words is the head toggled: `added-written`, `removed-written`
---   Decided   the slots of the head decide on a pair exactly if the head has an entry of it
 pub mod Reach
 pub mod Woven
 pub mod Run
 pub mod Written
-pub mod Decided
