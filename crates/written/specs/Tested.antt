@@ -8,7 +8,7 @@ use mathlib.Core.List.{List}
 use lib.ListN.{getD}
 use lib.Dec.{leb, eqb}
 use borrow.Author.Tests.{eqb-true, eqb-false, eq-eqb, ne-eqb, leb-true, leb-false, le-leb}
-use Rattle.laws.specs.Tests.{and-left, and-right}
+use Rattle.laws.specs.Tests.{and-left, and-right, and-true}
 use Rattle.geometry.specs.Places.{erased}
 use Rattle.rules.specs.Level.{pagesFor}
 use Rattle.written.specs.Written.{countOf}
@@ -35,23 +35,23 @@ filled w start pages = fullPages w start 0 (pages - 1) && lastRight (lastCount w
 
 -- The tests word by word, and page by page.
 module _ (w : List ℕ) (i to : ℕ) where
-  pub unused-passes : i < to → getD w i 0 ≡ erased → unused w i to ≡ unused w (i + 1) to
+  pub unused-goes-on : (all : Bool) → i < to → (all && unused w i to) ≡ (all && eqb (getD w i 0) erased && unused w (i + 1) to)
   unfolding unused blank
-  unused-passes h e =
+  unused-goes-on all h =
       let n : to - i ≡ suc (to - (i + 1)) = omega arith in
-      rw (n, blank, eq-eqb (getD w i 0) erased e) refl
+      rw (n, blank) (chosen all (eqb (getD w i 0) erased))
+    where
+      chosen : (a b : Bool) →
+          (a && elim b [ true ↦ blank w (i + 1) (to - (i + 1)) | false ↦ false ]) ≡ (a && b && blank w (i + 1) (to - (i + 1)))
+      chosen true true = refl
+      chosen true false = refl
+      chosen false b = refl
 
-  pub unused-stops : i < to → (getD w i 0 ≡ erased → ⊥) → unused w i to ≡ false
+  pub unused-ends : (all : Bool) → to ≤ i → (all && unused w i to) ≡ all
   unfolding unused blank
-  unused-stops h e =
-      let n : to - i ≡ suc (to - (i + 1)) = omega arith in
-      rw (n, blank, ne-eqb (getD w i 0) erased e) refl
-
-  pub unused-ends : to ≤ i → unused w i to ≡ true
-  unfolding unused blank
-  unused-ends h =
+  unused-ends all h =
       let n : to - i ≡ 0 = omega arith in
-      rw (n, blank) refl
+      rw (n, blank) (and-true all)
 
 module _ (w : List ℕ) (start p last : ℕ) where
   pub full-passes : p < last → countOf w start p ≡ 21 → fullPages w start p (last - p) ≡ fullPages w start (p + 1) (last - (p + 1))

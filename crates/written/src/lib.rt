@@ -15,6 +15,7 @@ use geometry::FIRST_SLOT;
 use geometry::PAGE_SLOTS;
 use geometry::PAGE_WORDS;
 use geometry::SLOT_WORDS;
+use laws::both;
 use page::is_fence;
 use page::is_normal;
 use slot::Kind;
@@ -164,14 +165,13 @@ fn unused(words: &[u32], from: usize, to: usize) -> bool
     requires { ⌜ to ≤ length (now words) ⌝ }
     ensures { λ b. ⌜ b ≡ Spec·unused (now (words .entry)) from to ⌝ }
 {
+    let mut all = true;
     let mut i = from;
     while i < to {
-        if words[i] != ERASED {
-            return false;
-        }
+        all = both(all, words[i] == ERASED);
         i += 1;
     }
-    true
+    all
 }
 
 // Whether a row is the writing of its own entries, which ascend: each slot is the one that the stream wants.
