@@ -10,7 +10,7 @@ use lib.ListN.{length}
 use lib.Dec.{leb, ltb}
 use borrow.Author.Tests.{lt-ltb, le-ltb, ltb-true, ltb-false, le-leb, lt-leb, leb-false, ne-eqb}
 use Rattle.laws.specs.Lists.{span}
-use Rattle.laws.specs.Tests.{and-false-right}
+use Rattle.laws.specs.Tests.{and-false-right, and-true}
 use Rattle.laws.specs.Flat.{span-first, span-none}
 use Rattle.slot.specs.declared.Pair.{Pair}
 use Rattle.slot.specs.declared.Slot.{Slot}
@@ -29,11 +29,11 @@ entries-fence : (s : Slot) (ss : List Slot) → fenceKind (s .kind) ≡ true →
 unfolding entriesOf
 entries-fence s ss e = rw (e, entriesOf) refl
 
-entries-entry : (s : Slot) (ss : List Slot) → fenceKind (s .kind) ≡ false → entriesOf (s ∷ ss) ≡ entryOf s ∷ entriesOf ss
+pub entries-entry : (s : Slot) (ss : List Slot) → fenceKind (s .kind) ≡ false → entriesOf (s ∷ ss) ≡ entryOf s ∷ entriesOf ss
 unfolding entriesOf
 entries-entry s ss e = rw (e, entriesOf) refl
 
-passed-entry : (k : Kind) (p : ℕ) → fenceKind k ≡ false → passed k p ≡ p
+pub passed-entry : (k : Kind) (p : ℕ) → fenceKind k ≡ false → passed k p ≡ p
 passed-entry Normal p e = refl
 passed-entry Filter p e = refl
 passed-entry External p e = cc
@@ -60,16 +60,12 @@ unfolding rising ascending rises
 rising-ascending last [] = refl
 rising-ascending last (e ∷ es) = rising-after 0 e es
 
-and-true : (b : Bool) → (b && true) ≡ b
-and-true true = refl
-and-true false = refl
-
 module _ (w : List ℕ) (row : Row) where
-  slots-on-first : (n : ℕ) → n < row .slots → slotsOn w row n ≡ rowSlot w row n ∷ slotsOn w row (n + 1)
+  pub slots-on-first : (n : ℕ) → n < row .slots → slotsOn w row n ≡ rowSlot w row n ∷ slotsOn w row (n + 1)
   unfolding slotsOn
   slots-on-first n h = span-first (rowSlot w row) n (row .slots - n) (row .slots - (n + 1)) (omega arith)
 
-  slots-on-none : (n : ℕ) → row .slots ≤ n → slotsOn w row n ≡ []
+  pub slots-on-none : (n : ℕ) → row .slots ≤ n → slotsOn w row n ≡ []
   unfolding slotsOn
   slots-on-none n h = span-none (rowSlot w row) n (row .slots - n) (omega arith)
 
@@ -181,7 +177,7 @@ module _ (w : List ℕ) (row : Row) where
   }
 
   -- At a slot, the walk goes on where it is the wanted one, and where an entry rises.
-  goes-on : (n p c : ℕ) (last : Pair) → n < row .slots → goesOn w row n p c last ≡
+  pub goes-on : (n p c : ℕ) (last : Pair) → n < row .slots → goesOn w row n p c last ≡
       (isWanted w row n (nextEntry w row n) p (rowSlot w row n) &&
       areStream (row .fenced) (firstBelow w row) (row .below) (n + 1) (passed (rowSlot w row n .kind) p) (slotsOn w row (n + 1)) &&
       rising c last (entriesOf (rowSlot w row n ∷ slotsOn w row (n + 1))))

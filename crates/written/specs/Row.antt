@@ -1,9 +1,12 @@
 -- A row of slots in words, and the slot that the stream wants at each of its positions. Assumes nothing.
 use Prim.Native.Nat.{ℕ, zero, suc, _+_, _-_, _*_, _/_, _%_, _≤_, _<_}
+use mathlib.Core.Path.{_≡_, sym, _∙_}
 use mathlib.Core.Bool.{Bool, true, false, cond, not, _&&_, _||_}
 use mathlib.Core.List.{List, [], _∷_}
 use lib.ListN.{length}
 use lib.Dec.{leb, ltb, eqb}
+use borrow.Author.Tests.{eqb-true, not-true}
+use Rattle.laws.specs.Tests.{and-left, and-right}
 use Rattle.laws.specs.Lists.{span}
 use Rattle.slot.specs.declared.Pair.{Pair}
 use Rattle.slot.specs.declared.Slot.{Slot}
@@ -32,6 +35,19 @@ pub record RowInside (w : List ℕ) (row : Row) : Type 0 where
   pub slots-inside : (n : ℕ) → n < row .slots → rowPlace row n + 3 ≤ length w
   pub below-inside : row .«below_start» + 64 * row .below ≤ length w
   pub slots-few : row .slots < 4294967296
+
+-- A row that has no fences: over no pages, and without internal ones.
+pub record Unfenced (row : Row) : Type 0 where
+  pub none-below : row .below ≡ 0
+  pub none-inside : row .fenced ≡ false
+
+pub unfenced-told : (row : Row) (b : Bool) → b ≡ (eqb (row .below) 0 && not (row .fenced)) → b ≡ true → Unfenced row
+unfenced-told row b e t =
+    let told = sym e ∙ t in
+    record {
+      none-below = eqb-true (row .below) 0 (and-left (eqb (row .below) 0) (not (row .fenced)) told);
+      none-inside = not-true (row .fenced) (and-right (eqb (row .below) 0) (not (row .fenced)) told);
+    }
 
 -- Whether an entry is above the last one of c before it, and whether entries ascend from there on.
 unfoldable pub rises : ℕ → Pair → Pair → Bool

@@ -58,6 +58,42 @@ slot-same a b e =
 abbrev pub entryOf : Slot → Entry
 entryOf s = record { pair = s .pair; normal = normalKind (s .kind) }
 
+-- A fence and an index entry are never one slot.
+pub slots-apart : (a b : Slot) → fenceKind (a .kind) ≡ not (fenceKind (b .kind)) → sameSlot a b ≡ false
+slots-apart a b d = chosen (sameSlot a b) refl
+  where
+    differs : (x : Bool) → x ≡ not x → _≡_ {A = Bool} true false
+    differs true e = e
+    differs false e = sym e
+
+    chosen : (t : Bool) → sameSlot a b ≡ t → t ≡ false
+    chosen true q = differs (fenceKind (b .kind)) (ap (λ (s : Slot). fenceKind (s .kind)) (sym (same-slot a b q)) ∙ d)
+    chosen false q = refl
+
+-- Whether a slot is the one that its index entry is written in: no fence, with page number 0.
+unfoldable pub isIndex : Slot → Bool
+isIndex s = not (fenceKind (s .kind)) && eqb (s .page .0) 0
+
+pub index-same : (s : Slot) → sameSlot s (index (entryOf s)) ≡ isIndex s
+unfolding sameSlot index isIndex
+index-same s =
+    rw (eq-eqb (s .pair .badge) (s .pair .badge) refl, eq-eqb (s .pair .floor .0) (s .pair .floor .0) refl) (chosen (s .kind))
+  where
+    chosen : (k : Kind) → (eqb (kindNumber k) (kindNumber (elim (normalKind k) [ true ↦ Normal | false ↦ Filter ])) && eqb (s .page .0) 0) ≡
+        (not (fenceKind k) && eqb (s .page .0) 0)
+    chosen Normal = refl
+    chosen Filter = refl
+    chosen External = refl
+    chosen Internal = refl
+
+pub index-entry : (s : Slot) → isIndex s ≡ true → fenceKind (s .kind) ≡ false
+unfolding isIndex
+index-entry s e = not-true (fenceKind (s .kind)) (and-left (not (fenceKind (s .kind))) (eqb (s .page .0) 0) e)
+
+pub fence-no-index : (s : Slot) → fenceKind (s .kind) ≡ true → isIndex s ≡ false
+unfolding isIndex
+fence-no-index s f = rw f refl
+
 -- The next fence after a slot of a kind.
 abbrev pub passed : Kind → ℕ → ℕ
 passed Normal p = p

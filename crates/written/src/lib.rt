@@ -7,8 +7,8 @@ ghost use lib.ListN.{length};
 ghost use Rattle.rules.specs.Level.{index, internal, fenceOf};
 ghost use Rattle.rules.specs.Sound.{slotsFrom, entriesOf};
 ghost use Rattle.written.specs.Written.{firstPair, levelRun, levelWritten, headWritten, LevelInside, HeadInside};
-ghost use Rattle.written.specs.Stream.{sameSlot, entryOf, passed as Spec·passed, entryNext, fencedAt};
-ghost use Rattle.written.specs.Row.{RowInside, rowPlace, rowSlot, rowSlots, nextEntry, nothingLeft, wantedAt, isWanted, rises as Spec·rises, rowWritten};
+ghost use Rattle.written.specs.Stream.{sameSlot, entryOf, isIndex, passed as Spec·passed, entryNext, fencedAt};
+ghost use Rattle.written.specs.Row.{RowInside, Unfenced, rowPlace, rowSlot, rowSlots, nextEntry, nothingLeft, wantedAt, isWanted, rises as Spec·rises, rowWritten};
 ghost use Rattle.written.specs.Tested.{filled, lastRight, unused as Spec·unused};
 use geometry::ERASED;
 use geometry::FIRST_SLOT;
@@ -16,6 +16,7 @@ use geometry::PAGE_SLOTS;
 use geometry::PAGE_WORDS;
 use geometry::SLOT_WORDS;
 use laws::both;
+use laws::either;
 use page::is_fence;
 use page::is_normal;
 use slot::Kind;
@@ -174,8 +175,44 @@ fn unused(words: &[u32], from: usize, to: usize) -> bool
     all
 }
 
-// Whether a row is the writing of its own entries, which ascend: each slot is the one that the stream wants.
+// Whether a row is the writing of its own entries, which ascend; where it has no fences, by a pass without branches.
 fn row_written(words: &[u32], row: Row) -> Verdict
+    requires { ⌜ RowInside (now words) row ⌝ }
+    ensures exact { λ r. ⌜ r .ok ≡ rowWritten (now (words .entry)) row ⌝ }
+    ensures counted { λ r. ⌜ (r .ok ≡ true → r .entries ≡ length (entriesOf (rowSlots (now (words .entry)) row))) ⌝ }
+{
+    if both(row.below == 0, !row.fenced) {
+        return bottom_written(words, row);
+    }
+    stream_written(words, row)
+}
+
+// Whether a row that has no fences is the writing of its own entries: index entries alone, which ascend.
+fn bottom_written(words: &[u32], row: Row) -> Verdict
+    requires { ⌜ RowInside (now words) row ⌝ }
+    requires { ⌜ Unfenced row ⌝ }
+    ensures exact { λ r. ⌜ r .ok ≡ rowWritten (now (words .entry)) row ⌝ }
+    ensures counted { λ r. ⌜ (r .ok ≡ true → r .entries ≡ length (entriesOf (rowSlots (now (words .entry)) row))) ⌝ }
+{
+    let mut ok = true;
+    let mut last = least_pair();
+    let mut n = 0;
+    while n < row.slots {
+        let slot = slot_of(words, row, n);
+        let pair = slot.pair;
+        let fits = both(is_index(slot), rises(n as u32, last, pair));
+        ok = both(ok, fits);
+        last = pair;
+        n += 1;
+    }
+    Verdict {
+        ok,
+        entries: row.slots as u32,
+    }
+}
+
+// Whether a row is the writing of its own entries, which ascend, as a stream: each slot is the one that the stream wants.
+fn stream_written(words: &[u32], row: Row) -> Verdict
     requires { ⌜ RowInside (now words) row ⌝ }
     ensures exact { λ r. ⌜ r .ok ≡ rowWritten (now (words .entry)) row ⌝ }
     ensures counted { λ r. ⌜ (r .ok ≡ true → r .entries ≡ length (entriesOf (rowSlots (now (words .entry)) row))) ⌝ }
@@ -367,14 +404,20 @@ fn passed(kind: Kind, p: u32) -> u32
     }
 }
 
-// Whether an entry is above the one before it, if there is one.
+// Whether an entry is above the last of those before it, if there are any.
 fn rises(entries: u32, last: Pair, pair: Pair) -> bool
     ensures { λ b. ⌜ b ≡ Spec·rises entries last pair ⌝ }
 {
-    if entries == 0 {
-        return true;
-    }
-    comes_before(last, pair)
+    either(entries == 0, comes_before(last, pair))
+}
+
+// Whether a slot is the one that its index entry is written in: no fence, with page number 0.
+fn is_index(slot: Slot) -> bool
+    ensures { λ b. ⌜ b ≡ isIndex slot ⌝ }
+{
+    let kind = slot.kind;
+    let page = slot.page;
+    both(!is_fence(kind), page.0 == 0)
 }
 
 // Whether two slots are one.
