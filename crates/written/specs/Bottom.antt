@@ -5,17 +5,17 @@ use mathlib.Core.Path.{_≡_, refl, sym, ap, _∙_}
 use mathlib.Core.Bool.{Bool, true, false, not, _&&_}
 use mathlib.Core.List.{List}
 use lib.ListN.{length}
-use lib.Dec.{ltb}
-use borrow.Author.Tests.{ltb-true, ltb-false, le-leb, lt-leb}
-use Rattle.laws.specs.Tests.{and-left, and-right, and-true, and-false, and-assoc, and-regroup}
+use lib.Dec.{leb, ltb}
+use borrow.Author.Tests.{ltb-true, ltb-false, le-leb}
+use Rattle.laws.specs.Tests.{and-left, and-right, and-true, and-false, and-assoc}
 use Rattle.slot.specs.declared.Pair.{Pair}
 use Rattle.slot.specs.declared.Slot.{Slot}
 use Rattle.rules.specs.Level.{index, fenceKind}
 use Rattle.rules.specs.Sound.{entriesOf}
 use Rattle.written.specs.declared.Row.{Row}
-use Rattle.written.specs.Stream.{sameSlot, entryOf, isIndex, slots-apart, index-same, index-entry, fence-no-index, entry-kind, entryNext, fencedAt, areStream}
-use Rattle.written.specs.Row.{Unfenced, rowSlot, firstBelow, rises, rising, nothingLeft, slotsOn, rowSlots, nextEntry, wantedAt, isWanted, goesOn, rowWritten}
-use Rattle.written.specs.Position.{entries-entry, passed-entry, slots-on-first, slots-on-none, next-here, wanted-index, goes-on, here-starts}
+use Rattle.written.specs.Stream.{sameSlot, entryOf, isIndex, slots-apart, index-entry, fence-no-index, entry-kind, entryNext, fencedAt, areStream}
+use Rattle.written.specs.Row.{Unfenced, rowSlot, rises, rising, nothingLeft, slotsOn, rowSlots, nextEntry, wantedAt, isWanted, entryFits, goesOn, rowWritten}
+use Rattle.written.specs.Position.{entries-entry, slots-on-first, slots-on-none, wanted-index, goes-fence, goes-entry, here-starts}
 
 module _ (w : List ℕ) (row : Row) where
   -- What the walk knows at position n, where ok is whether all slots before it were right; they are entries then.
@@ -26,15 +26,22 @@ module _ (w : List ℕ) (row : Row) where
 
   pub bare-starts : (last : Pair) → Bare 0 true last
   bare-starts last =
-      let start = here-starts w row (nextEntry w row 0) last refl in
+      let start = here-starts w row last in
       record { inside = start .inside; same = start .same; counted = λ t. start .counted }
 
 module _ (w : List ℕ) (row : Row) (none : Unfenced row) where
-  -- The wanted slot is that of the next entry. So a fence is never wanted, and an entry is exactly if it stands in its entry's slot.
+  -- No fence is due at any position.
+  none-due : (n : ℕ) → fencedAt (row .fenced) n ≡ false
+  unfolding fencedAt
+  none-due n = rw (none .none-inside) refl
+
+  all-passed : (p : ℕ) → leb (row .below) p ≡ true
+  all-passed p = le-leb (row .below) p (omega (arith, none .none-below))
+
+  -- So the wanted slot is that of the next entry, and a fence is never wanted; and an entry fits exactly if it stands in its entry's slot.
   wanted-entry : (n r p : ℕ) → r < row .slots → index (entryOf (rowSlot w row r)) ≡ wantedAt w row n r p
-  unfolding entryNext fencedAt
-  wanted-entry n r p some =
-      wanted-index w row n r p some (rw (le-leb (row .below) p (omega (arith, none .none-below))) refl) (rw (none .none-inside) refl)
+  unfolding entryNext
+  wanted-entry n r p some = wanted-index w row n r p some (rw (all-passed p) refl) (none-due n)
 
   fence-unwanted : (n r p : ℕ) (s : Slot) → fenceKind (s .kind) ≡ true → isWanted w row n r p s ≡ false
   unfolding isWanted nothingLeft
@@ -45,38 +52,23 @@ module _ (w : List ℕ) (row : Row) (none : Unfenced row) where
           let entry = entryOf (rowSlot w row r) in
           rw (← wanted-entry n r p (ltb-true r (row .slots) e), slots-apart s (index entry) (f ∙ ap not (sym (entry-kind entry))))
           (and-false (not (nothingLeft row r p)))
-      chosen false e =
-          let last : row .below ≤ p = omega (arith, none .none-below) in
-          rw (nothingLeft, le-leb (row .slots) r (ltb-false r (row .slots) e), le-leb (row .below) p last) refl
+      chosen false e = rw (nothingLeft, le-leb (row .slots) r (ltb-false r (row .slots) e), all-passed p) refl
 
-  entry-wanted : (n p : ℕ) → n < row .slots → isWanted w row n n p (rowSlot w row n) ≡ isIndex (rowSlot w row n)
-  unfolding isWanted nothingLeft
-  entry-wanted n p some = rw (lt-leb (row .slots) n some, ← wanted-entry n n p some) (index-same (rowSlot w row n))
+  index-fits : (n p : ℕ) (s : Slot) → entryFits w row n p s ≡ isIndex s
+  unfolding entryFits entryNext
+  index-fits n p s = rw (none-due n, all-passed p) refl
 
   -- So the row goes on exactly if its next slot is that of an entry which rises, and it goes on from there.
   goes-bare : (n c : ℕ) (last : Pair) → n < row .slots → goesOn w row n 0 c last ≡
       ((isIndex (rowSlot w row n) && rises c last (rowSlot w row n .pair)) && goesOn w row (n + 1) 0 (c + 1) (rowSlot w row n .pair))
-  unfolding goesOn rising
   goes-bare n c last some = chosen (fenceKind (rowSlot w row n .kind)) refl
     where
       chosen : (b : Bool) → fenceKind (rowSlot w row n .kind) ≡ b → goesOn w row n 0 c last ≡
           ((isIndex (rowSlot w row n) && rises c last (rowSlot w row n .pair)) && goesOn w row (n + 1) 0 (c + 1) (rowSlot w row n .pair))
       chosen true f =
-          goes-on w row n 0 c last some ∙
+          goes-fence w row n 0 c last some f ∙
           rw (fence-unwanted n (nextEntry w row n) 0 (rowSlot w row n) f, fence-no-index (rowSlot w row n) f) refl
-      chosen false f =
-          goes-on w row n 0 c last some ∙
-          rw (
-            next-here w row n some f,
-            entry-wanted n 0 some,
-            passed-entry (rowSlot w row n .kind) 0 f,
-            entries-entry (rowSlot w row n) (slotsOn w row (n + 1)) f,
-            rising,
-            goesOn,
-          )
-          (and-regroup true (isIndex (rowSlot w row n))
-          (areStream (row .fenced) (firstBelow w row) (row .below) (n + 1) 0 (slotsOn w row (n + 1)))
-          (rises c last (rowSlot w row n .pair)) (rising (c + 1) (rowSlot w row n .pair) (entriesOf (slotsOn w row (n + 1)))))
+      chosen false f = rw (index-fits n 0 (rowSlot w row n)) at (goes-entry w row n 0 c last some f)
 
   pub bare-goes-on : (n : ℕ) (ok : Bool) (last : Pair) → Bare w row n ok last → n < row .slots →
       Bare w row (n + 1) (ok && (isIndex (rowSlot w row n) && rises n last (rowSlot w row n .pair))) (rowSlot w row n .pair)
@@ -98,7 +90,7 @@ module _ (w : List ℕ) (row : Row) (none : Unfenced row) where
   module _ (n : ℕ) (ok : Bool) (last : Pair) (here : Bare w row n ok last) (end : row .slots ≤ n) where
     pub bare-ends : rowWritten w row ≡ ok
     unfolding goesOn areStream rising entriesOf
-    bare-ends = here .same ∙ rw (slots-on-none w row n end, le-leb (row .below) 0 (omega (arith, none .none-below))) (and-true ok)
+    bare-ends = here .same ∙ rw (slots-on-none w row n end, all-passed 0) (and-true ok)
 
     pub bare-counted : ok ≡ true → row .slots ≡ length (entriesOf (rowSlots w row))
     unfolding entriesOf

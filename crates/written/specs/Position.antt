@@ -3,14 +3,14 @@ use Prim.Native.Nat.{ℕ, zero, suc, _+_, _-_, _≤_, _<_}
 use native.Mathlib.Nat.{sub-zero}
 use native.Mathlib.Numerals.{add-one}
 use native.Mathlib.Omega.{arith}
-use mathlib.Core.Path.{_≡_, refl, _∙_}
+use mathlib.Core.Path.{_≡_, refl, sym, ap, _∙_}
 use mathlib.Core.Bool.{Bool, true, false, cond, not, _&&_, _||_}
 use mathlib.Core.List.{List, [], _∷_}
 use lib.ListN.{length}
 use lib.Dec.{leb, ltb}
 use borrow.Author.Tests.{lt-ltb, le-ltb, ltb-true, ltb-false, le-leb, lt-leb, leb-false, ne-eqb}
 use Rattle.laws.specs.Lists.{span}
-use Rattle.laws.specs.Tests.{and-false-right, and-true}
+use Rattle.laws.specs.Tests.{and-true, and-assoc, and-regroup}
 use Rattle.laws.specs.Flat.{span-first, span-none}
 use Rattle.slot.specs.declared.Pair.{Pair}
 use Rattle.slot.specs.declared.Slot.{Slot}
@@ -21,8 +21,8 @@ use Rattle.rules.specs.Tree.{Entry, Level}
 use Rattle.rules.specs.Level.{index, internal, fenceKind, fenceOf}
 use Rattle.rules.specs.Sound.{entriesOf, ascending}
 use Rattle.written.specs.declared.Row.{Row}
-use Rattle.written.specs.Stream.{sameSlot, entryOf, passed, entryNext, fencedAt, wanted, ended, areStream}
-use Rattle.written.specs.Row.{rowSlot, firstBelow, rises, rising, nothingLeft, slotsOn, rowSlots, entryIn, nextEntry, entryAt, wantedAt, isWanted, goesOn, rowWritten}
+use Rattle.written.specs.Stream.{sameSlot, entryOf, isIndex, slots-apart, index-same, passed, fence-kind, entryNext, fencedAt, wanted, ended, areStream}
+use Rattle.written.specs.Row.{rowSlot, firstBelow, rises, rising, nothingLeft, slotsOn, rowSlots, entryIn, nextEntry, entryAt, wantedAt, isWanted, entryFits, goesOn, rowWritten}
 
 -- The entries of slots, a fence or an entry first; an entry passes no fence.
 entries-fence : (s : Slot) (ss : List Slot) → fenceKind (s .kind) ≡ true → entriesOf (s ∷ ss) ≡ entriesOf ss
@@ -33,7 +33,7 @@ pub entries-entry : (s : Slot) (ss : List Slot) → fenceKind (s .kind) ≡ fals
 unfolding entriesOf
 entries-entry s ss e = rw (e, entriesOf) refl
 
-pub passed-entry : (k : Kind) (p : ℕ) → fenceKind k ≡ false → passed k p ≡ p
+passed-entry : (k : Kind) (p : ℕ) → fenceKind k ≡ false → passed k p ≡ p
 passed-entry Normal p e = refl
 passed-entry Filter p e = refl
 passed-entry External p e = cc
@@ -156,28 +156,29 @@ module _ (w : List ℕ) (row : Row) where
         seen (wanted (row .fenced) (firstBelow w row) (row .below) n p) (λ e es. refl) n h,
       ) refl
 
-  -- What the walk knows at position n: the next entry, the fences and entries passed, and that the row is written exactly if it goes on so.
-  pub record Here (n r p c : ℕ) (last : Pair) : Type 0 where
-    pub inside : n ≤ row .slots
-    pub next : r ≡ nextEntry w row n
-    pub fences : p ≤ n
-    pub entries : c ≤ n
-    pub same : rowWritten w row ≡ goesOn w row n p c last
-    pub counted : c + length (entriesOf (slotsOn w row n)) ≡ length (entriesOf (rowSlots w row))
+  -- An entry is its own next one, so it is the wanted slot exactly if it fits.
+  entry-wanted : (n p : ℕ) → n < row .slots → fenceKind (rowSlot w row n .kind) ≡ false →
+      isWanted w row n (nextEntry w row n) p (rowSlot w row n) ≡ entryFits w row n p (rowSlot w row n)
+  unfolding isWanted nothingLeft entryFits internal
+  entry-wanted n p some f =
+      rw (next-here n some f, lt-leb (row .slots) n some)
+      (chosen (fencedAt (row .fenced) n) (entryNext (firstBelow w row) (row .below) p (rowSlot w row n .pair)) refl refl)
+    where
+      no-fence : (s : Slot) → s ≡ wantedAt w row n n p → fenceKind (s .kind) ≡ true → sameSlot (rowSlot w row n) (wantedAt w row n n p) ≡ false
+      no-fence s e k = rw (← e) (slots-apart (rowSlot w row n) s (f ∙ ap not (sym k)))
 
-  pub here-starts : (r : ℕ) (last : Pair) → r ≡ nextEntry w row 0 → Here 0 r 0 0 last
-  unfolding rowWritten goesOn
-  here-starts r last e = record {
-    inside = omega arith;
-    next = e;
-    fences = omega arith;
-    entries = omega arith;
-    same = rw (slots-on-all, rising-ascending last (entriesOf (rowSlots w row))) refl;
-    counted = rw slots-on-all (omega arith);
-  }
+      outer : fenceKind (fenceOf (firstBelow w row) p .kind) ≡ true
+      outer = ap fenceKind (fence-kind (row .fenced) (firstBelow w row) (row .below) p)
 
-  -- At a slot, the walk goes on where it is the wanted one, and where an entry rises.
-  pub goes-on : (n p c : ℕ) (last : Pair) → n < row .slots → goesOn w row n p c last ≡
+      chosen : (a b : Bool) → fencedAt (row .fenced) n ≡ a → entryNext (firstBelow w row) (row .below) p (rowSlot w row n .pair) ≡ b →
+          sameSlot (rowSlot w row n) (wantedAt w row n n p) ≡ (not a && b && isIndex (rowSlot w row n))
+      chosen true true a b = no-fence (internal (rowSlot w row n .pair) (p - 1)) (wanted-inner n n p some b a) refl
+      chosen true false a b = no-fence (fenceOf (firstBelow w row) p) (wanted-fence n n p some b) outer
+      chosen false true a b = rw (← wanted-index n n p some b a) (index-same (rowSlot w row n))
+      chosen false false a b = no-fence (fenceOf (firstBelow w row) p) (wanted-fence n n p some b) outer
+
+  -- At a slot, the row goes on where it is the wanted one, and where an entry rises.
+  goes-on : (n p c : ℕ) (last : Pair) → n < row .slots → goesOn w row n p c last ≡
       (isWanted w row n (nextEntry w row n) p (rowSlot w row n) &&
       areStream (row .fenced) (firstBelow w row) (row .below) (n + 1) (passed (rowSlot w row n .kind) p) (slotsOn w row (n + 1)) &&
       rising c last (entriesOf (rowSlot w row n ∷ slotsOn w row (n + 1))))
@@ -187,58 +188,88 @@ module _ (w : List ℕ) (row : Row) where
       let q = rw e at (wanted-seen n p (omega arith) (rowSlot w row n)) in
       rw (e, q) refl
 
+  pub goes-fence : (n p c : ℕ) (last : Pair) → n < row .slots → fenceKind (rowSlot w row n .kind) ≡ true → goesOn w row n p c last ≡
+      (isWanted w row n (nextEntry w row n) p (rowSlot w row n) && goesOn w row (n + 1) (passed (rowSlot w row n .kind) p) c last)
+  unfolding goesOn
+  goes-fence n p c last some f =
+      goes-on n p c last some ∙
+      rw (entries-fence (rowSlot w row n) (slotsOn w row (n + 1)) f, goesOn)
+      (and-assoc (isWanted w row n (nextEntry w row n) p (rowSlot w row n))
+      (areStream (row .fenced) (firstBelow w row) (row .below) (n + 1) (passed (rowSlot w row n .kind) p) (slotsOn w row (n + 1)))
+      (rising c last (entriesOf (slotsOn w row (n + 1)))))
+
+  pub goes-entry : (n p c : ℕ) (last : Pair) → n < row .slots → fenceKind (rowSlot w row n .kind) ≡ false → goesOn w row n p c last ≡
+      ((entryFits w row n p (rowSlot w row n) && rises c last (rowSlot w row n .pair)) && goesOn w row (n + 1) p (c + 1) (rowSlot w row n .pair))
+  unfolding goesOn rising
+  goes-entry n p c last some f =
+      goes-on n p c last some ∙
+      rw (
+        entry-wanted n p some f,
+        passed-entry (rowSlot w row n .kind) p f,
+        entries-entry (rowSlot w row n) (slotsOn w row (n + 1)) f,
+        rising,
+        goesOn,
+      )
+      (and-regroup true (entryFits w row n p (rowSlot w row n))
+      (areStream (row .fenced) (firstBelow w row) (row .below) (n + 1) p (slotsOn w row (n + 1)))
+      (rises c last (rowSlot w row n .pair)) (rising (c + 1) (rowSlot w row n .pair) (entriesOf (slotsOn w row (n + 1)))))
+
+  -- What the walk knows at position n: the next entry, if it is known to be behind, the fences and entries passed, and that the row is
+  -- written exactly if it goes on so.
+  pub record Here (n r p c : ℕ) (last : Pair) : Type 0 where
+    pub inside : n ≤ row .slots
+    pub next : n < r → r ≡ nextEntry w row n
+    pub fences : p ≤ n
+    pub entries : c ≤ n
+    pub same : rowWritten w row ≡ goesOn w row n p c last
+    pub counted : c + length (entriesOf (slotsOn w row n)) ≡ length (entriesOf (rowSlots w row))
+
+  pub here-starts : (last : Pair) → Here 0 0 0 0 last
+  unfolding rowWritten goesOn
+  here-starts last = record {
+    inside = omega arith;
+    next = λ h. absurd (omega arith);
+    fences = omega arith;
+    entries = omega arith;
+    same = rw (slots-on-all, rising-ascending last (entriesOf (rowSlots w row))) refl;
+    counted = rw slots-on-all (omega arith);
+  }
+
   module _ (n r p c : ℕ) (last : Pair) (here : Here n r p c last) (more : n < row .slots) where
-    pub here-refused : isWanted w row n r p (rowSlot w row n) ≡ false → rowWritten w row ≡ false
-    here-refused e =
-        let q : isWanted w row n (nextEntry w row n) p (rowSlot w row n) ≡ false = rw (here .next) at e in
-        here .same ∙ goes-on n p c last more ∙ rw q refl
+    -- At a fence it goes on where that is the wanted slot.
+    module _ (fence : fenceKind (rowSlot w row n .kind) ≡ true) where
+      pub here-refused : isWanted w row n (nextEntry w row n) p (rowSlot w row n) ≡ false → rowWritten w row ≡ false
+      here-refused e = here .same ∙ goes-fence n p c last more fence ∙ rw e refl
 
-    here-goes : isWanted w row n r p (rowSlot w row n) ≡ true → rowWritten w row ≡
-        (areStream (row .fenced) (firstBelow w row) (row .below) (n + 1) (passed (rowSlot w row n .kind) p) (slotsOn w row (n + 1)) &&
-        rising c last (entriesOf (rowSlot w row n ∷ slotsOn w row (n + 1))))
-    here-goes e =
-        let q : isWanted w row n (nextEntry w row n) p (rowSlot w row n) ≡ true = rw (here .next) at e in
-        here .same ∙ goes-on n p c last more ∙ rw q refl
+      pub here-fence : isWanted w row n (nextEntry w row n) p (rowSlot w row n) ≡ true → (r′ : ℕ) → r′ ≡ nextEntry w row n →
+          Here (n + 1) r′ (passed (rowSlot w row n .kind) p) c last
+      here-fence e r′ q = record {
+        inside = omega arith;
+        next = λ h. q ∙ next-passes n more fence;
+        fences = omega (arith, passed-most (rowSlot w row n .kind) p, here .fences);
+        entries = omega (arith, here .entries);
+        same = here .same ∙ goes-fence n p c last more fence ∙ rw e refl;
+        counted = rw (slots-on-first n more, entries-fence (rowSlot w row n) (slotsOn w row (n + 1)) fence) at (here .counted);
+      }
 
-    pub here-fence : isWanted w row n r p (rowSlot w row n) ≡ true → fenceKind (rowSlot w row n .kind) ≡ true →
-        Here (n + 1) r (passed (rowSlot w row n .kind) p) c last
-    unfolding goesOn
-    here-fence e f =
-        let es = entries-fence (rowSlot w row n) (slotsOn w row (n + 1)) f in
-        record {
-          inside = omega arith;
-          next = here .next ∙ next-passes n more f;
-          fences = omega (arith, passed-most (rowSlot w row n .kind) p, here .fences);
-          entries = omega (arith, here .entries);
-          same = here-goes e ∙ rw es refl;
-          counted = rw (slots-on-first n more, es) at (here .counted);
-        }
+    -- At an entry, where it fits and rises.
+    module _ (entry : fenceKind (rowSlot w row n .kind) ≡ false) where
+      pub here-falls : (entryFits w row n p (rowSlot w row n) && rises c last (rowSlot w row n .pair)) ≡ false → rowWritten w row ≡ false
+      here-falls e = here .same ∙ goes-entry n p c last more entry ∙ rw e refl
 
-    pub here-falls : isWanted w row n r p (rowSlot w row n) ≡ true → fenceKind (rowSlot w row n .kind) ≡ false →
-        rises c last (rowSlot w row n .pair) ≡ false → rowWritten w row ≡ false
-    unfolding rising
-    here-falls e f d =
-        let falls : rising c last (entriesOf (rowSlot w row n ∷ slotsOn w row (n + 1))) ≡ false =
-        rw (entries-entry (rowSlot w row n) (slotsOn w row (n + 1)) f) (rw (rising, d) refl) in
-        here-goes e ∙
-        and-false-right (areStream (row .fenced) (firstBelow w row) (row .below) (n + 1) (passed (rowSlot w row n .kind) p) (slotsOn w row (n + 1)))
-        (rising c last (entriesOf (rowSlot w row n ∷ slotsOn w row (n + 1)))) falls
-
-    pub here-entry : isWanted w row n r p (rowSlot w row n) ≡ true → fenceKind (rowSlot w row n .kind) ≡ false →
-        rises c last (rowSlot w row n .pair) ≡ true → (r′ : ℕ) → r′ ≡ nextEntry w row (n + 1) → Here (n + 1) r′ p (c + 1) (rowSlot w row n .pair)
-    unfolding goesOn rising
-    here-entry e f d r′ q =
-        let es = entries-entry (rowSlot w row n) (slotsOn w row (n + 1)) f in
-        let total : c + length (entryOf (rowSlot w row n) ∷ entriesOf (slotsOn w row (n + 1))) ≡ length (entriesOf (rowSlots w row)) =
-        rw (slots-on-first n more, es) at (here .counted) in
-        record {
-          inside = omega arith;
-          next = q;
-          fences = omega (arith, here .fences);
-          entries = omega (arith, here .entries);
-          same = here-goes e ∙ rw (es, passed-entry (rowSlot w row n .kind) p f) (rw (d, rising) refl);
-          counted = omega arith;
-        }
+      pub here-entry : (entryFits w row n p (rowSlot w row n) && rises c last (rowSlot w row n .pair)) ≡ true →
+          Here (n + 1) r p (c + 1) (rowSlot w row n .pair)
+      here-entry e =
+          let total : c + length (entryOf (rowSlot w row n) ∷ entriesOf (slotsOn w row (n + 1))) ≡ length (entriesOf (rowSlots w row)) =
+          rw (slots-on-first n more, entries-entry (rowSlot w row n) (slotsOn w row (n + 1)) entry) at (here .counted) in
+          record {
+            inside = omega arith;
+            next = λ h. absurd (omega (arith, here .next (omega arith), next-here n more entry));
+            fences = omega (arith, here .fences);
+            entries = omega (arith, here .entries);
+            same = here .same ∙ goes-entry n p c last more entry ∙ rw e refl;
+            counted = omega arith;
+          }
 
   -- At the row's end it is written exactly if no fence is left, and its entries are counted.
   pub here-ends : (n r p c : ℕ) (last : Pair) → Here n r p c last → row .slots ≤ n → rowWritten w row ≡ leb (row .below) p

@@ -17,7 +17,7 @@ use Rattle.rules.specs.Level.{fenceKind}
 use Rattle.rules.specs.Sound.{entriesOf, ascending}
 use Rattle.written.specs.declared.Row.{Row}
 use Rattle.written.specs.Written.{firstPair}
-use Rattle.written.specs.Stream.{sameSlot, entryOf, wanted, areStream}
+use Rattle.written.specs.Stream.{sameSlot, entryOf, isIndex, entryNext, fencedAt, wanted, areStream}
 
 -- The place of slot n of a row: in pages of 64 words, or slot after slot.
 unfoldable pub rowPlace : Row → ℕ → ℕ
@@ -86,6 +86,10 @@ module _ (w : List ℕ) (row : Row) where
 
   unfoldable pub isWanted : ℕ → ℕ → ℕ → Slot → Bool
   isWanted n r p s = not (nothingLeft row r p) && sameSlot s (wantedAt n r p)
+
+  -- Whether an index entry at position n is that slot: no fence is due before it, and its page number is 0.
+  unfoldable pub entryFits : ℕ → ℕ → Slot → Bool
+  entryFits n p s = not (fencedAt (row .fenced) n) && entryNext (firstBelow w row) (row .below) p (s .pair) && isIndex s
 
   -- Whether the row goes on from position n as the writing of its own entries, which ascend; and whether all of it is that.
   unfoldable pub goesOn : ℕ → ℕ → ℕ → Pair → Bool

@@ -232,7 +232,7 @@ module _ (inner : Bool) (first : ℕ → Pair) (below : ℕ) where
           rw (fences-next p (leb-false below p q), place, n) refl
 
   -- A fence of the row is external, and passes to the next.
-  fence-kind : (p : ℕ) → fenceOf first p .kind ≡ External
+  pub fence-kind : (p : ℕ) → fenceOf first p .kind ≡ External
   unfolding fenceOf external
   fence-kind zero = refl
   fence-kind (suc p) = refl

@@ -1,5 +1,6 @@
 // Whether the head and each level are the writing of their own index entries over the pages below. The writing runs as a stream over the
-// row of slots: n is the position in the row, r that of the next own entry, p the next fence; the last fence's page is p − 1.
+// row of slots: n is the position in the row, r that of the next own entry, which fences ask for, p the next fence; the last fence's page is
+// p − 1.
 ghost use Prim.Native.Nat.{_+_, _-_, _*_, _^_, _≤_, _<_};
 ghost use mathlib.Core.Path.{_≡_};
 ghost use mathlib.Core.Bool.{true, _&&_};
@@ -8,7 +9,7 @@ ghost use Rattle.rules.specs.Level.{index, internal, fenceOf};
 ghost use Rattle.rules.specs.Sound.{slotsFrom, entriesOf};
 ghost use Rattle.written.specs.Written.{firstPair, levelRun, levelWritten, headWritten, LevelInside, HeadInside};
 ghost use Rattle.written.specs.Stream.{sameSlot, entryOf, isIndex, passed as Spec·passed, entryNext, fencedAt};
-ghost use Rattle.written.specs.Row.{RowInside, Unfenced, rowPlace, rowSlot, rowSlots, nextEntry, nothingLeft, wantedAt, isWanted, rises as Spec·rises, rowWritten};
+ghost use Rattle.written.specs.Row.{RowInside, Unfenced, rowPlace, rowSlot, rowSlots, nextEntry, nothingLeft, wantedAt, isWanted, entryFits, rises as Spec·rises, rowWritten};
 ghost use Rattle.written.specs.Tested.{filled, lastRight, unused as Spec·unused};
 use geometry::ERASED;
 use geometry::FIRST_SLOT;
@@ -218,34 +219,59 @@ fn stream_written(words: &[u32], row: Row) -> Verdict
     ensures counted { λ r. ⌜ (r .ok ≡ true → r .entries ≡ length (entriesOf (rowSlots (now (words .entry)) row))) ⌝ }
 {
     let mut n = 0;
-    let mut r = next_entry(words, row, 0);
+    let mut r = 0;
     let mut p: u32 = 0;
     let mut entries: u32 = 0;
     let mut last = least_pair();
     while n < row.slots {
         let found = slot_of(words, row, n);
-        if !is_wanted(words, row, n, r, p, found) {
-            return Verdict { ok: false, entries };
-        }
         let pair = found.pair;
         let kind = found.kind;
         if is_fence(kind) {
+            r = entry_behind(words, row, n, r);
+            if !is_wanted(words, row, n, r, p, found) {
+                return Verdict { ok: false, entries };
+            }
             p = passed(kind, p);
             n += 1;
         } else {
-            if !rises(entries, last, pair) {
+            let fits = entry_fits(words, row, n, p, found);
+            if !both(fits, rises(entries, last, pair)) {
                 return Verdict { ok: false, entries };
             }
             last = pair;
             entries += 1;
             n += 1;
-            r = next_entry(words, row, n);
         }
     }
     Verdict {
         ok: row.below <= p,
         entries,
     }
+}
+
+// Whether an index entry at position n is the slot that the writing has there: no fence is due before it, and its page number is 0.
+fn entry_fits(words: &[u32], row: Row, n: usize, p: u32, entry: Slot) -> bool
+    requires { ⌜ RowInside (now words) row ⌝ }
+    ensures { λ b. ⌜ b ≡ entryFits (now (words .entry)) row n p entry ⌝ }
+{
+    let pair = entry.pair;
+    let next = entry_next(words, row.below_start, row.below, p, pair);
+    let due = both(!fenced_at(row.fenced, n), next);
+    both(due, is_index(entry))
+}
+
+// The position of the first index entry from n on: r, if that was found before and is not passed.
+fn entry_behind(words: &[u32], row: Row, n: usize, r: usize) -> usize
+    requires { ⌜ RowInside (now words) row ⌝ }
+    requires { ⌜ n ≤ row .slots ⌝ }
+    requires { ⌜ (n < r → r ≡ nextEntry (now words) row n) ⌝ }
+    ensures { λ e. ⌜ e ≡ nextEntry (now (words .entry)) row n ⌝ }
+{
+    if n < r {
+        return r;
+    }
+    next_entry(words, row, n)
 }
 
 // Whether a slot is the one that the writing has at position n.

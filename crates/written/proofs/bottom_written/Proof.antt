@@ -1,7 +1,7 @@
 -- `bottom_written` decides whether a row that has no fences is the writing of its own entries. The invariant: what `Bare` says at the position.
 -- Assumes nothing.
 use Prim.Native.Nat.{_-_}
-use mathlib.Core.Path.{sym, _∙_}
+use mathlib.Core.Path.{sym}
 use denote.Ref.{now}
 use Rattle.written.specs.Bottom.{Bare, bare-starts, bare-goes-on, bare-ends, bare-counted}
 use borrow.Author.Needs.{needs}
