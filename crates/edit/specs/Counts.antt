@@ -102,12 +102,6 @@ module _ (w : List ℕ) (run : Run) where
       let rest : count + length (entriesOf (concat (span (pageIn w run) p 0))) ≡ length (entriesIn w run) = rw none at (c .completes) in
       omega (arith, rest)
 
-  -- A slot of a page lies inside the words.
-  pub slot-inside : (words p j n place : ℕ) → Inside run words → p < run .pages → n ≡ countIn w run p → j < n → place ≡ placeIn run p j → place + 3 ≤ words
-  unfolding countIn placeIn
-  slot-inside words p j n place i h e k at =
-      omega (arith, i .ends, min-le-right (getD w (run .start + 64 * p) 0) (run .most), e, at)
-
   -- So many slots of a page counted are the page's, and few.
   module _ (p n j count : ℕ) (e : n ≡ countIn w run p) (h : n ≤ j) (c : SlotsCounted (λ k. slotAt w (placeIn run p k)) n j count) where
     pub page-counted : count ≡ length (entriesOf (pageIn w run p))

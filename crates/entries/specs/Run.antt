@@ -1,6 +1,6 @@
 -- A run of pages in words and its index entries from a cursor on, as the clauses of src/lib.rt cite them. Assumes nothing.
 use Prim.Native.Nat.{ℕ, zero, suc, _+_, _-_, _*_, _≤_, _<_, min}
-use native.Mathlib.Nat.{sub-zero}
+use native.Mathlib.Nat.{sub-zero, min-le-right}
 use native.Mathlib.Numerals.{add-one}
 use native.Mathlib.Omega.{arith}
 use mathlib.Core.Path.{_≡_, refl, ap, sym, _∙_}
@@ -95,7 +95,22 @@ pub shown-fence : (w : List ℕ) (place : ℕ) (s : Slot) → s ≡ slotAt w pla
 unfolding shownAt entriesOf
 shown-fence w place s e k = rw (← e, k, entriesOf)
 
+pub index-first : (s : Slot) (ss : List Slot) → fenceKind (s .kind) ≡ false → entriesOf (s ∷ ss) ≡ record { pair = s .pair; normal = normalKind (s .kind) } ∷ entriesOf ss
+unfolding entriesOf
+index-first s ss k = rw (k, entriesOf)
+
+pub shown-index : (w : List ℕ) (place : ℕ) (s : Slot) → s ≡ slotAt w place → fenceKind (s .kind) ≡ false →
+    record { pair = s .pair; normal = normalKind (s .kind) } ∷ [] ≡ shownAt w place
+unfolding shownAt entriesOf
+shown-index w place s e k = sym (index-first s [] k) ∙ ap (λ (u : Slot). entriesOf (u ∷ [])) e
+
 module _ (w : List ℕ) (run : Run) where
+  -- A slot of a page lies inside the words.
+  pub slot-inside : (words p j n place : ℕ) → Inside run words → p < run .pages → n ≡ countIn w run p → j < n → place ≡ placeIn run p j → place + 3 ≤ words
+  unfolding countIn placeIn
+  slot-inside words p j n place i h e k at =
+      omega (arith, i .ends, min-le-right (getD w (run .start + 64 * p) 0) (run .most), e, at)
+
   -- From a slot on there is what that slot shows, and then what follows it.
   pub rest-shown : (p j : ℕ) → p < run .pages → j < countIn w run p →
       restFrom w run p j (run .pages - p) ≡ shownAt w (placeIn run p j) ++ restFrom w run p (j + 1) (run .pages - p)

@@ -1,13 +1,21 @@
 // A cursor by value over the index entries of one run in lent words: a level's pages, or the head.
-ghost use Prim.Native.Nat.{_+_, _<_, _≤_};
+ghost use Prim.Native.Nat.{_+_, _^_, _<_, _≤_};
 ghost use mathlib.Core.Path.{_≡_};
+ghost use mathlib.Core.Bool.{true};
+ghost use mathlib.Core.List.{_∷_};
 ghost use lib.ListN.{length};
+ghost use lib.Dec.{leb};
 ghost use Rattle.rules.specs.Level.{index};
 ghost use Rattle.entries.specs.Run.{Inside, entry as indexed, countIn, placeIn, shown, shownAt, entriesIn, rest, ahead};
 ghost use Rattle.entries.specs.Levels.{AllInside, levelRun, runsOf, treeIn, aheads};
+ghost use Rattle.entries.specs.Skip.{skip, stopsAt, pageFrom, slotIn};
+ghost use Rattle.entries.specs.Spot.{spotOf, cursorAt, pageAt, upcoming, Standing};
 ghost use Rattle.geometry.specs.Places.{levelStart, planOf};
 use geometry::Geometry;
 use geometry::Plan;
+use laws::both;
+use page::is_fence;
+use page::is_normal;
 use slot::Kind;
 use slot::Pair;
 use slot::Pid;
@@ -26,6 +34,9 @@ pub struct Cursor {
     pub page: Pid,
     pub slot: SlotNo,
 }
+
+// A cursor may also be one number, a spot, which stays in a register: so many times its page number, and its slot number.
+const PAGE_STEP: u64 = 4294967296;
 
 // An index entry: a pair, and normal or a filter.
 pub struct Entry {
@@ -59,6 +70,14 @@ pub struct Fronts {
     pub first: Next,
     pub second: Next,
     pub third: Next,
+}
+
+// Spots in each of four runs.
+pub struct Spots {
+    pub head: u64,
+    pub first: u64,
+    pub second: u64,
+    pub third: u64,
 }
 
 // The runs of a store's levels.
@@ -226,5 +245,101 @@ pub fn index_of(entry: Entry) -> Slot
         pair,
         kind: Kind::Filter,
         page: Pid(0),
+    }
+}
+
+// Where an index entry stands from which on none is before a pair: the first at or after a spot, or the end of the run.
+pub fn skip_to(words: &[u32], run: Run, from: u64, pair: Pair) -> u64
+    requires { ⌜ Inside run (length (now words)) ⌝ }
+    ensures told { λ r. ⌜ upcoming (now (words .entry)) run r ≡ skip pair (upcoming (now (words .entry)) run from) ⌝ }
+    ensures standing { λ r. ⌜ Standing (now (words .entry)) run r ⌝ }
+{
+    let cursor = cursor_at(from);
+    let first = cursor.page;
+    let start = cursor.slot;
+    let mut page = first.0;
+    let mut slot = start.0;
+    while page < run.pages {
+        let count = count_in(words, run, page);
+        slot = skip_in_page(words, run, page, slot, pair);
+        if slot < count {
+            return spot_of(page, slot);
+        }
+        page += 1;
+        slot = 0;
+    }
+    spot_of(page, slot)
+}
+
+// The first slot of a page from one on that is an index entry not before a pair, or one past the page's slots.
+fn skip_in_page(words: &[u32], run: Run, page: u32, from: u32, pair: Pair) -> u32
+    requires { ⌜ Inside run (length (now words)) ⌝ }
+    requires { ⌜ page < run .pages ⌝ }
+    ensures told { λ r. ⌜ pageFrom (now (words .entry)) run page r ≡ skip pair (pageFrom (now (words .entry)) run page from) ⌝ }
+    ensures stops { λ r. ⌜ (r < countIn (now (words .entry)) run page → stopsAt pair (slotIn (now (words .entry)) run page r) ≡ true) ⌝ }
+{
+    let count = count_in(words, run, page);
+    let mut slot = from;
+    while slot < count {
+        if stops(slot::read_slot(words, place_in(run, page, slot)), pair) {
+            return slot;
+        }
+        slot += 1;
+    }
+    slot
+}
+
+// Whether a slot is an index entry that is not before a pair.
+fn stops(slot: Slot, pair: Pair) -> bool
+    ensures { λ r. ⌜ r ≡ stopsAt pair slot ⌝ }
+{
+    let own = slot.pair;
+    let kind = slot.kind;
+    both(!is_fence(kind), !slot::comes_before(own, pair))
+}
+
+// Whether a run has no page left at a spot.
+pub fn is_ended(run: Run, spot: u64) -> bool
+    ensures { λ r. ⌜ r ≡ leb (run .pages) (pageAt spot) ⌝ }
+{
+    let cursor = cursor_at(spot);
+    let page = cursor.page;
+    run.pages <= page.0
+}
+
+// The index entry that stands at a spot.
+pub fn entry_at(words: &[u32], run: Run, spot: u64) -> Entry
+    requires { ⌜ Inside run (length (now words)) ⌝ }
+    requires { ⌜ Standing (now words) run spot ⌝ }
+    requires { ⌜ pageAt spot < run .pages ⌝ }
+    ensures told { λ r. ⌜ indexed r ∷ upcoming (now (words .entry)) run (spot + 1) ≡ upcoming (now (words .entry)) run spot ⌝ }
+    ensures fits { λ _. ⌜ spot + 1 < 2 ^ 64 ⌝ }
+{
+    let cursor = cursor_at(spot);
+    let page = cursor.page;
+    let number = cursor.slot;
+    let read = slot::read_slot(words, place_in(run, page.0, number.0));
+    let pair = read.pair;
+    let kind = read.kind;
+    Entry {
+        pair,
+        normal: is_normal(kind),
+    }
+}
+
+// The spot of a page and a slot number.
+fn spot_of(page: u32, slot: u32) -> u64
+    ensures { λ r. ⌜ r ≡ spotOf page slot ⌝ }
+{
+    PAGE_STEP * page as u64 + slot as u64
+}
+
+// The cursor at a spot.
+fn cursor_at(spot: u64) -> Cursor
+    ensures { λ r. ⌜ r ≡ cursorAt spot ⌝ }
+{
+    Cursor {
+        page: Pid((spot / PAGE_STEP) as u32),
+        slot: SlotNo((spot % PAGE_STEP) as u32),
     }
 }

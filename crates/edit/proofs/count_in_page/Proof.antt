@@ -6,8 +6,8 @@ use denote.Ref.{now}
 use Rattle.slot.specs.declared.Slot.{Slot}
 use Rattle.slot.specs.Slot.{slotAt}
 use Rattle.rules.specs.Level.{fenceKind}
-use Rattle.entries.specs.Run.{placeIn}
-use Rattle.edit.specs.Counts.{SlotsCounted, slots-begin, slots-go-on, slot-inside, page-counted, page-few}
+use Rattle.entries.specs.Run.{placeIn, slot-inside}
+use Rattle.edit.specs.Counts.{SlotsCounted, slots-begin, slots-go-on, page-counted, page-few}
 use borrow.Author.Needs.{needs}
 use Rattle.edit.proofs.count_in_page.Statement.{statement}
 use Rattle.edit.proofs.count_in_page.Tie as tie
