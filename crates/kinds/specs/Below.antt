@@ -1,13 +1,16 @@
 -- The runs below the top one of four, and the levels of a tree one by one. Assumes nothing.
-use Prim.Native.Nat.{ℕ, _+_}
+use Prim.Native.Nat.{ℕ, suc, _+_}
 use native.Mathlib.Omega.{arith}
 use mathlib.Core.Path.{_≡_, refl, ap, _∙_}
-use mathlib.Core.Bool.{Bool, true, false, _&&_}
-use mathlib.Core.List.{List, _∷_}
+use mathlib.Core.Bool.{Bool, true, false, not, _&&_, Bool·beq}
+use mathlib.Core.List.{List, [], _∷_}
 use lib.Dec.{eqb}
+use borrow.Author.Tests.{ne-eqb}
 use Rattle.laws.specs.Lists.{span, concat, all}
+use Rattle.laws.specs.Tests.{and-left, and-right}
 use Rattle.geometry.specs.declared.Geometry.{Geometry}
 use Rattle.geometry.specs.Geometry.{InRange}
+use Rattle.rules.specs.Tree.{Level, Tree}
 use Rattle.rules.specs.Finding.{find, held}
 use Rattle.rules.specs.Sound.{entriesOf, treeOf, alternating, countKind, liveRight, ascending}
 use Rattle.entries.specs.declared.Run.{Run}
@@ -15,8 +18,9 @@ use Rattle.entries.specs.declared.Runs.{Runs}
 use Rattle.entries.specs.Run.{entriesIn}
 use Rattle.entries.specs.Levels.{AllInside, runsOf, treeIn, by-levels}
 use Rattle.entries.specs.Ascending.{levelsAscend, chain-first}
+use Rattle.entries.specs.Counts.{kindCount, count-none, count-normal, count-filter}
 use Rattle.kinds.specs.declared.Tally.{Tally}
-use Rattle.kinds.specs.Tally.{treeTally}
+use Rattle.kinds.specs.Tally.{levelTally, treeTally}
 use Rattle.kinds.specs.Standing.{rightOver, standsOver, topStands}
 
 -- A run of no pages, and the runs below the top one.
@@ -41,6 +45,31 @@ top-ascends w rs a = a
 pub top-stands : (w : List ℕ) (rs : Runs) → standsOver (entriesIn w (rs .head)) (treeIn w (belowOf rs)) ≡ topStands (treeIn w rs)
 unfolding belowOf topStands standsOver rightOver treeIn entriesIn span concat entriesOf held find
 top-stands w rs = refl
+
+-- Over levels without entries a level stands right exactly if it has no filter.
+abbrev pub noEntries : Tree
+noEntries = [] ∷ [] ∷ [] ∷ [] ∷ []
+
+pub all-none : (w : List ℕ) (rs : Runs) (a b c d : Bool) → (a ≡ true → entriesIn w (rs .head) ≡ []) → (b ≡ true → entriesIn w (rs .first) ≡ []) →
+    (c ≡ true → entriesIn w (rs .second) ≡ []) → (d ≡ true → entriesIn w (rs .third) ≡ []) → (((a && b) && c) && d) ≡ true → treeIn w rs ≡ noEntries
+unfolding treeIn
+all-none w rs a b c d head first second third e =
+    let three = and-left ((a && b) && c) d e in
+    let two = and-left (a && b) c three in
+    rw (head (and-left a b two), first (and-right a b two), second (and-right (a && b) c three), third (and-right ((a && b) && c) d e))
+
+stands-alone : (es : Level) → eqb (kindCount false es) 0 ≡ standsOver es noEntries
+unfolding standsOver rightOver held find all
+stands-alone [] = rw (count-none false)
+stands-alone (e ∷ es) = by-kind (e .normal) refl (stands-alone es)
+  where
+    by-kind : (b : Bool) → e .normal ≡ b → eqb (kindCount false es) 0 ≡ standsOver es noEntries →
+        eqb (kindCount false (e ∷ es)) 0 ≡ elim (not (Bool·beq b false)) [ true ↦ standsOver es noEntries | false ↦ false ]
+    by-kind true q ih = rw (count-normal e es q .1) ih
+    by-kind false q ih = rw (count-filter e es q .1) (ne-eqb (suc (kindCount false es)) 0 (λ x. omega (arith, x)))
+
+pub top-alone : (w : List ℕ) (rs : Runs) (n : Tally) → treeIn w (belowOf rs) ≡ noEntries → n ≡ levelTally (entriesIn w (rs .head)) → eqb (n .filters) 0 ≡ topStands (treeIn w rs)
+top-alone w rs n none told = rw told (stands-alone (entriesIn w (rs .head)) ∙ rw (← none) (top-stands w rs))
 
 -- Every level of four stands right over those below it.
 and-true : (b : Bool) → (b && true) ≡ b

@@ -13,6 +13,7 @@ use Rattle.slot.specs.Order.{before-below, not-before-above, apart-not-same}
 use Rattle.rules.specs.Tree.{Entry, Level, Tree, rankOf}
 use Rattle.rules.specs.Finding.{find, held}
 use Rattle.entries.specs.Ascending.{From, AllFrom, levelsAscend, all-from-ascending, from-lower, all-from-lower, find-here, find-on, find-above, held-met, held-absent, held-agree}
+use Rattle.entries.specs.Skip.{skip, skipAll}
 
 -- An entry's kind is right over a tree: normal exactly if its pair is not held there.
 unfoldable pub rightOver : Tree → Entry → Bool
@@ -34,15 +35,6 @@ agree-false true false e = cc
 agree-false false true e = refl
 agree-false false false e = refl
 
--- A level from a pair on; so each level of a tree.
-unfoldable pub skip : Pair → Level → Level
-skip p [] = []
-skip p (e ∷ es) = elim (before (e .pair) p) [ true ↦ skip p es | false ↦ e ∷ es ]
-
-unfoldable pub skipAll : Pair → Tree → Tree
-skipAll p [] = []
-skipAll p (es ∷ t) = skip p es ∷ skipAll p t
-
 -- What the first entry of a level decides of a pair, over what the levels below say.
 unfoldable pub decides : Pair → Level → Bool → Bool
 decides p [] below = below
@@ -53,14 +45,6 @@ heldFirst p [] = false
 heldFirst p (es ∷ t) = decides p es (heldFirst p t)
 
 -- Levels from a pair on ------------------------------------------------------------------------------------------------------------------
-
-pub skip-on : (p : Pair) (e : Entry) (es : Level) → before (e .pair) p ≡ true → skip p (e ∷ es) ≡ skip p es
-unfolding skip
-skip-on p e es b = ap (λ (x : Bool). elim x [ true ↦ skip p es | false ↦ e ∷ es ]) b
-
-pub skip-stops : (p : Pair) (e : Entry) (es : Level) → before (e .pair) p ≡ false → skip p (e ∷ es) ≡ e ∷ es
-unfolding skip
-skip-stops p e es b = ap (λ (x : Bool). elim x [ true ↦ skip p es | false ↦ e ∷ es ]) b
 
 from-skip : (n : ℕ) (p : Pair) (es : Level) → From n es → From (rank p) (skip p es)
 unfolding From skip

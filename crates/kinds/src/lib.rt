@@ -1,26 +1,31 @@
 // Kinds, alternation and live across the levels of a store whose levels ascend.
-ghost use Prim.Native.Nat.{_+_, _≤_};
+ghost use Prim.Native.Nat.{_+_, _<_};
 ghost use mathlib.Core.Path.{_≡_};
 ghost use mathlib.Core.Bool.{true, _&&_, Bool·beq};
-ghost use mathlib.Core.List.{_∷_};
+ghost use mathlib.Core.List.{[], _∷_};
 ghost use lib.ListN.{length, getD};
 ghost use lib.Dec.{eqb};
 ghost use Rattle.geometry.specs.Geometry.{InRange};
 ghost use Rattle.geometry.specs.Places.{planOf, storeWords, liveWord};
 ghost use Rattle.rules.specs.Sound.{treeOf, alternating, liveRight};
-ghost use Rattle.entries.specs.Run.{Inside, entriesIn, ahead};
-ghost use Rattle.entries.specs.Levels.{AllInside, PagesWithin, treeIn, first as firstOf, firsts, aheads};
+ghost use Rattle.entries.specs.Run.{Inside, entriesIn};
+ghost use Rattle.entries.specs.Levels.{AllInside, PagesWithin, treeIn};
 ghost use Rattle.entries.specs.Ascending.{levelsAscend};
-ghost use Rattle.kinds.specs.Standing.{standsOver, topStands, skip, skipAll, decides, heldFirst};
-ghost use Rattle.kinds.specs.Tally.{TallySmall, levelTally, treeTally};
-ghost use Rattle.kinds.specs.Below.{belowOf};
-use entries::Fronts;
-use entries::Next;
+ghost use Rattle.entries.specs.Skip.{skipAll, pageFrom};
+ghost use Rattle.entries.specs.Spot.{upcoming, Standing, upcomings, AllStanding};
+ghost use Rattle.kinds.specs.Standing.{standsOver, topStands, decides, heldFirst};
+ghost use Rattle.kinds.specs.Tally.{TallySmall, levelTally, treeTally, filterKind};
+ghost use Rattle.kinds.specs.Below.{belowOf, noEntries};
 use entries::Run;
 use entries::Runs;
+use entries::Spots;
 use geometry::Geometry;
 use geometry::Plan;
+use laws::one_if;
+use page::is_normal;
+use slot::Kind;
 use slot::Pair;
+use slot::read_slot;
 
 // The normal entries and the filters of a level or a tree.
 pub struct Tally {
@@ -78,17 +83,45 @@ fn tally_run(words: &[u32], run: Run) -> Tally
 {
     let mut normal: u32 = 0;
     let mut filters: u32 = 0;
-    let mut front = entries::first_entry(words, run);
-    loop {
-        let Next::Found(entry, cursor) = front else {
-            return Tally { normal, filters };
-        };
-        front = entries::next_entry(words, run, cursor);
-        if entry.normal {
-            normal += 1;
-        } else {
-            filters += 1;
-        }
+    let mut page: u32 = 0;
+    while page < run.pages {
+        let tally = tally_page(words, run, page);
+        normal += tally.normal;
+        filters += tally.filters;
+        page += 1;
+    }
+    Tally { normal, filters }
+}
+
+// Those of one of its pages.
+fn tally_page(words: &[u32], run: Run, page: u32) -> Tally
+    requires { ⌜ Inside run (length (now words)) ⌝ }
+    requires { ⌜ page < run .pages ⌝ }
+    ensures { λ r. ⌜ r ≡ levelTally (pageFrom (now (words .entry)) run page 0) ⌝ }
+{
+    let slots = entries::count_in(words, run, page);
+    let mut normal: u32 = 0;
+    let mut filters: u32 = 0;
+    let mut slot: u32 = 0;
+    while slot < slots {
+        let read = read_slot(words, entries::place_in(run, page, slot));
+        let kind = read.kind;
+        normal += one_if(is_normal(kind));
+        filters += one_if(is_filter(kind));
+        slot += 1;
+    }
+    Tally { normal, filters }
+}
+
+// Whether a slot's kind is a filter's.
+fn is_filter(kind: Kind) -> bool
+    ensures { λ r. ⌜ r ≡ filterKind kind ⌝ }
+{
+    match kind {
+        Kind::Normal => false,
+        Kind::Filter => true,
+        Kind::External => false,
+        Kind::Internal => false,
     }
 }
 
@@ -133,7 +166,7 @@ fn below(runs: Runs) -> Runs
     }
 }
 
-// Whether the top level of four runs stands right over those below it.
+// Whether the top level of four runs stands right over those below it: over no entries, exactly if it has no filter.
 fn top_stands(words: &[u32], runs: Runs) -> bool
     requires { ⌜ AllInside runs (length (now words)) ⌝ }
     requires { ⌜ levelsAscend (treeIn (now words) runs) ≡ true ⌝ }
@@ -141,7 +174,35 @@ fn top_stands(words: &[u32], runs: Runs) -> bool
 {
     let top = runs.head;
     let lower = below(runs);
+    if all_empty(words, lower) {
+        let tally = tally_run(words, top);
+        return tally.filters == 0;
+    }
     stands_over(words, top, lower)
+}
+
+// Whether four runs have no entries.
+fn all_empty(words: &[u32], runs: Runs) -> bool
+    requires { ⌜ AllInside runs (length (now words)) ⌝ }
+    ensures { λ r. ⌜ (r ≡ true → treeIn (now (words .entry)) runs ≡ noEntries) ⌝ }
+{
+    let run = runs.head;
+    let head = is_empty(words, run);
+    let run = runs.first;
+    let first = is_empty(words, run);
+    let run = runs.second;
+    let second = is_empty(words, run);
+    let run = runs.third;
+    let third = is_empty(words, run);
+    head & first & second & third
+}
+
+// Whether a run has none.
+fn is_empty(words: &[u32], run: Run) -> bool
+    requires { ⌜ Inside run (length (now words)) ⌝ }
+    ensures { λ r. ⌜ (r ≡ true → entriesIn (now (words .entry)) run ≡ []) ⌝ }
+{
+    entries::is_ended(run, entries::skip_to(words, run, 0, slot::least_pair()))
 }
 
 // Whether each entry of a run stands over the next entry of its pair below, of the other kind, or normal over none.
@@ -151,49 +212,74 @@ fn stands_over(words: &[u32], top: Run, lower: Runs) -> bool
     requires { ⌜ levelsAscend (entriesIn (now words) top ∷ treeIn (now words) lower) ≡ true ⌝ }
     ensures { λ r. ⌜ r ≡ standsOver (entriesIn (now (words .entry)) top) (treeIn (now (words .entry)) lower) ⌝ }
 {
-    let mut fronts = entries::first_fronts(words, lower);
-    let mut front = entries::first_entry(words, top);
-    loop {
-        let Next::Found(entry, cursor) = front else {
-            return true;
-        };
+    let least = slot::least_pair();
+    let mut spots = Spots {
+        head: 0,
+        first: 0,
+        second: 0,
+        third: 0,
+    };
+    let mut spot = entries::skip_to(words, top, 0, least);
+    while !entries::is_ended(top, spot) {
+        let entry = entries::entry_at(words, top, spot);
         let pair = entry.pair;
-        fronts = fronts_from(words, lower, fronts, pair);
-        if agree(entry.normal, held_first(fronts, pair)) {
+        spots = spots_from(words, lower, spots, pair);
+        if agree(entry.normal, held_at(words, lower, spots, pair)) {
             return false;
         }
-        front = entries::next_entry(words, top, cursor);
+        spot = entries::skip_to(words, top, spot + 1, least);
+    }
+    true
+}
+
+// Four spots, each moved forward to a pair.
+fn spots_from(words: &[u32], runs: Runs, spots: Spots, pair: Pair) -> Spots
+    requires { ⌜ AllInside runs (length (now words)) ⌝ }
+    ensures told { λ r. ⌜ upcomings (now (words .entry)) runs r ≡ skipAll pair (upcomings (now (words .entry)) runs spots) ⌝ }
+    ensures standing { λ r. ⌜ AllStanding (now (words .entry)) runs r ⌝ }
+{
+    let run = runs.head;
+    let head = entries::skip_to(words, run, spots.head, pair);
+    let run = runs.first;
+    let first = entries::skip_to(words, run, spots.first, pair);
+    let run = runs.second;
+    let second = entries::skip_to(words, run, spots.second, pair);
+    let run = runs.third;
+    let third = entries::skip_to(words, run, spots.third, pair);
+    Spots {
+        head,
+        first,
+        second,
+        third,
     }
 }
 
-// Whether two kinds are one.
-fn agree(a: bool, b: bool) -> bool
-    ensures { λ r. ⌜ r ≡ Bool·beq a b ⌝ }
+// Whether the topmost entry of a pair at four spots holds it.
+fn held_at(words: &[u32], runs: Runs, spots: Spots, pair: Pair) -> bool
+    requires { ⌜ AllInside runs (length (now words)) ⌝ }
+    requires { ⌜ AllStanding (now words) runs spots ⌝ }
+    ensures { λ r. ⌜ r ≡ heldFirst pair (upcomings (now (words .entry)) runs spots) ⌝ }
 {
-    if a { b } else { !b }
+    let run = runs.third;
+    let lowest = told_at(words, run, spots.third, pair, false);
+    let run = runs.second;
+    let lower = told_at(words, run, spots.second, pair, lowest);
+    let run = runs.first;
+    let upper = told_at(words, run, spots.first, pair, lower);
+    let run = runs.head;
+    told_at(words, run, spots.head, pair, upper)
 }
 
-// Whether the topmost front of a pair holds it.
-fn held_first(fronts: Fronts, pair: Pair) -> bool
-    ensures { λ r. ⌜ r ≡ heldFirst pair (firsts fronts) ⌝ }
+// What the entry at a spot says of a pair, over what those below say.
+fn told_at(words: &[u32], run: Run, spot: u64, pair: Pair, below: bool) -> bool
+    requires { ⌜ Inside run (length (now words)) ⌝ }
+    requires { ⌜ Standing (now words) run spot ⌝ }
+    ensures { λ r. ⌜ r ≡ decides pair (upcoming (now (words .entry)) run spot) below ⌝ }
 {
-    let third = fronts.third;
-    let lowest = decided(third, pair, false);
-    let second = fronts.second;
-    let lower = decided(second, pair, lowest);
-    let first = fronts.first;
-    let upper = decided(first, pair, lower);
-    let head = fronts.head;
-    decided(head, pair, upper)
-}
-
-// What a front says of a pair, over what those below say.
-fn decided(front: Next, pair: Pair, below: bool) -> bool
-    ensures { λ r. ⌜ r ≡ decides pair (firstOf front) below ⌝ }
-{
-    let Next::Found(entry, _) = front else {
+    if entries::is_ended(run, spot) {
         return below;
-    };
+    }
+    let entry = entries::entry_at(words, run, spot);
     let own = entry.pair;
     if slot::same_pair(pair, own) {
         entry.normal
@@ -202,45 +288,9 @@ fn decided(front: Next, pair: Pair, below: bool) -> bool
     }
 }
 
-// Four fronts, each moved forward to a pair.
-fn fronts_from(words: &[u32], runs: Runs, fronts: Fronts, pair: Pair) -> Fronts
-    requires { ⌜ AllInside runs (length (now words)) ⌝ }
-    ensures { λ r. ⌜ aheads (now (words .entry)) runs r ≡ skipAll pair (aheads (now (words .entry)) runs fronts) ⌝ }
+// Whether two kinds are one.
+fn agree(a: bool, b: bool) -> bool
+    ensures { λ r. ⌜ r ≡ Bool·beq a b ⌝ }
 {
-    let run = runs.head;
-    let front = fronts.head;
-    let head = front_from(words, run, front, pair);
-    let run = runs.first;
-    let front = fronts.first;
-    let first = front_from(words, run, front, pair);
-    let run = runs.second;
-    let front = fronts.second;
-    let second = front_from(words, run, front, pair);
-    let run = runs.third;
-    let front = fronts.third;
-    let third = front_from(words, run, front, pair);
-    Fronts {
-        head,
-        first,
-        second,
-        third,
-    }
-}
-
-// A front moved forward until no entry is before a pair.
-fn front_from(words: &[u32], run: Run, front: Next, pair: Pair) -> Next
-    requires { ⌜ Inside run (length (now words)) ⌝ }
-    ensures { λ r. ⌜ ahead (now (words .entry)) run r ≡ skip pair (ahead (now (words .entry)) run front) ⌝ }
-{
-    let mut next = front;
-    loop {
-        let Next::Found(entry, cursor) = next else {
-            return Next::Nothing;
-        };
-        let own = entry.pair;
-        if !slot::comes_before(own, pair) {
-            return Next::Found(entry, cursor);
-        }
-        next = entries::next_entry(words, run, cursor);
-    }
+    if a { b } else { !b }
 }

@@ -1,59 +1,71 @@
--- `stands_over` tests a level entry by entry. The loop's invariant: what is ahead decides the whole. Assumes nothing.
-use Rattle.kinds.specs.Standing.{Stands, standsOver, stands-begin, stands-done}
-use Rattle.kinds.specs.Fronts.{ahead-falls, found-wrong, found-right}
-use Rattle.entries.specs.Run.{ahead, entriesIn}
-use Rattle.entries.specs.Levels.{aheads, treeIn}
+-- `stands_over` tests a level entry by entry. The loop's invariant: what comes from the spots on decides the whole. Assumes nothing.
 use lib.ListN.{length}
 use denote.Ref.{now}
+use borrow.Author.Tests.{leb-false}
+use Rattle.laws.specs.Tests.{told-no}
+use mathlib.Core.Path.{refl}
+use borrow.Author.Tests.{not-false}
+use Rattle.entries.specs.Run.{entriesIn}
+use Rattle.entries.specs.Levels.{treeIn}
+use Rattle.entries.specs.Spot.{upcoming, Standing, upcomings, upcomings-all}
+use Rattle.kinds.specs.Standing.{standsOver, Stands, stands-begin, stands-done}
+use Rattle.kinds.specs.Spots.{from-first, none-left, wrong-here, right-here, fewer-on}
 use borrow.Author.Needs.{needs}
 use Rattle.kinds.proofs.stands_over.Statement.{statement}
 use Rattle.kinds.proofs.stands_over.Tie as tie
 
 abbrev Inv-loop : tie.InvT-loop
-Inv-loop words top lower fronts₀ front₀ fronts front =
-    Stands (ahead words top front) (aheads words lower fronts) (standsOver (entriesIn words top) (treeIn words lower))
+Inv-loop words top lower least spots₀ spot₀ spots spot = Stands (upcoming words top spot) (upcomings words lower spots) (standsOver (entriesIn words top) (treeIn words lower)) × Standing words top spot
 
 abbrev μ-loop : tie.MeasureT-loop
-μ-loop words top lower fronts₀ front₀ fronts front = length (ahead words top front)
+μ-loop words top lower least spots₀ spot₀ spots spot = length (upcoming words top spot)
 
-first-fronts-requires : tie.Need-first-fronts-requires Inv-loop μ-loop
-first-fronts-requires c κs = search needs
+least-pair-requires : tie.Need-least-pair-requires Inv-loop μ-loop
+least-pair-requires c κs = search needs
 
-first-entry-requires : tie.Need-first-entry-requires Inv-loop μ-loop
-first-entry-requires c κs = search needs
+skip-to-requires : tie.Need-skip-to-requires Inv-loop μ-loop
+skip-to-requires c κs = search needs
 
 loop-holds : tie.Need-loop-holds Inv-loop μ-loop
-loop-holds c = rw (c .first-entry .ensures, c .before .first-fronts .ensures) (stands-begin _ _ (c .before .before .before .pre .1 .1))
+loop-holds c =
+    let w = now (c .before .before .before .args .words) in
+    (rw (from-first w (c .before .before .before .args .top) (c .skip-to .result) _ (c .before .least-pair .ensures) (c .skip-to .ensures .0), upcomings-all w (c .before .before .before .args .lower) _ refl) (stands-begin _ _ (c .before .before .before .pre .1 .1)), c .skip-to .ensures .1)
 
-enum-known-front : tie.Need-enum-known-front Inv-loop μ-loop
-enum-known-front c = search needs
+is-ended-requires : tie.Need-is-ended-requires Inv-loop μ-loop
+is-ended-requires c κs = search needs
 
-enum-told : tie.Need-enum-told Inv-loop μ-loop
-enum-told c = search needs
+entry-at-requires : tie.Need-entry-at-requires Inv-loop μ-loop
+entry-at-requires c κs = (c .before .before .before .before .before .before .pre .0, (c .before .before .loop .inv .1, leb-false _ _ (told-no _ _ (c .before .is-ended .ensures) (c .if1 .taken))))
 
-returns : tie.Need-returns Inv-loop μ-loop
-returns c = stands-done (aheads (now (c .before .before .before .before .before .before .args .words)) (c .before .before .before .before .before .before .args .lower) (c .before .before .loop .fronts)) _ (rw (c .enum-told .given .1) at (c .before .before .loop .inv))
+spots-from-requires : tie.Need-spots-from-requires Inv-loop μ-loop
+spots-from-requires c κs = search needs
 
-fronts-from-requires : tie.Need-fronts-from-requires Inv-loop μ-loop
-fronts-from-requires c κs = search needs
-
-held-first-requires : tie.Need-held-first-requires Inv-loop μ-loop
-held-first-requires c κs = search needs
+held-at-requires : tie.Need-held-at-requires Inv-loop μ-loop
+held-at-requires c κs = (c .before .before .before .before .before .before .before .before .before .pre .1 .0, c .spots-from .ensures .1)
 
 agree-requires : tie.Need-agree-requires Inv-loop μ-loop
 agree-requires c κs = search needs
 
-returns-2 : tie.Need-returns-2 Inv-loop μ-loop
-returns-2 c = found-wrong (now (c .before .before .before .before .before .before .before .before .before .before .before .before .args .words)) (c .before .before .before .before .before .before .before .before .before .before .before .before .args .top) (c .before .before .before .before .before .before .before .before .before .before .before .before .args .lower) (c .before .before .before .before .before .before .before .before .loop .front) (c .before .before .before .before .before .before .before .before .loop .fronts) (c .before .before .before .fronts-from .result) _ _ _ (c .before .before .before .before .before .before .before .before .loop .inv) (c .before .before .before .before .before .before .front .given .1) (c .before .before .before .fronts-from .ensures) _ _ (c .before .before .held-first .ensures) (c .before .agree .ensures) (c .if1 .taken)
+returns : tie.Need-returns Inv-loop μ-loop
+returns c = wrong-here (now (c .before .before .before .before .before .before .before .before .before .before .before .before .args .words)) (c .before .before .before .before .before .before .before .before .before .before .before .before .args .top) (c .before .before .before .before .before .before .before .before .before .before .before .before .args .lower) (c .before .before .before .before .before .before .before .before .loop .spot) (c .before .before .before .before .before .before .before .before .loop .spots) (c .before .before .before .spots-from .result) (c .before .before .before .before .before .entry-at .result) _ (c .before .before .before .before .before .before .before .before .loop .inv .0) (c .before .before .before .before .before .entry-at .ensures .0) (c .before .before .before .spots-from .ensures .0) _ _ (c .before .before .held-at .ensures) (c .before .agree .ensures) (c .if2 .taken)
 
-next-entry-requires : tie.Need-next-entry-requires Inv-loop μ-loop
-next-entry-requires c κs = search needs
+add-skip-to : tie.Need-add-skip-to Inv-loop μ-loop
+add-skip-to c = search needs
+
+skip-to-requires-2 : tie.Need-skip-to-requires-2 Inv-loop μ-loop
+skip-to-requires-2 c κs = search needs
 
 loop-less : tie.Need-loop-less Inv-loop μ-loop
-loop-less c = ahead-falls (now (c .before .before .before .before .before .before .before .before .before .before .before .before .before .args .words)) (c .before .before .before .before .before .before .before .before .before .before .before .before .before .args .top) (c .before .before .before .before .before .before .before .before .before .loop .front) _ _ (c .next-entry .result) (c .before .before .before .before .before .before .before .front .given .1) (c .next-entry .ensures)
+loop-less c = fewer-on (now (c .before .before .before .before .before .before .before .before .before .before .before .before .before .args .words)) (c .before .before .before .before .before .before .before .before .before .before .before .before .before .args .top) (c .before .before .before .before .before .before .before .before .before .before .before .before .before .args .lower) (c .before .before .before .before .before .before .before .before .before .loop .spot) (c .before .before .before .before .before .before .before .before .before .loop .spots) (c .before .before .before .before .spots-from .result) (c .before .before .before .before .before .before .entry-at .result) _ (c .before .before .before .before .before .before .before .before .before .loop .inv .0) (c .before .before .before .before .before .before .entry-at .ensures .0) (c .before .before .before .before .spots-from .ensures .0) (c .skip-to2 .result) _ (c .before .before .before .before .before .before .before .before .before .before .before .least-pair .ensures) (c .skip-to2 .ensures .0)
 
 loop-again : tie.Need-loop-again Inv-loop μ-loop
-loop-again c = found-right (now (c .before .before .before .before .before .before .before .before .before .before .before .before .before .args .words)) (c .before .before .before .before .before .before .before .before .before .before .before .before .before .args .top) (c .before .before .before .before .before .before .before .before .before .before .before .before .before .args .lower) (c .before .before .before .before .before .before .before .before .before .loop .front) (c .before .before .before .before .before .before .before .before .before .loop .fronts) (c .before .before .before .before .fronts-from .result) _ _ _ (c .before .before .before .before .before .before .before .before .before .loop .inv) (c .before .before .before .before .before .before .before .front .given .1) (c .before .before .before .before .fronts-from .ensures) _ _ (c .before .before .before .held-first .ensures) (c .before .before .agree .ensures) (c .before .if1 .left) (c .next-entry .result) (c .next-entry .ensures)
+loop-again c = (
+  right-here (now (c .before .before .before .before .before .before .before .before .before .before .before .before .before .args .words)) (c .before .before .before .before .before .before .before .before .before .before .before .before .before .args .top) (c .before .before .before .before .before .before .before .before .before .before .before .before .before .args .lower) (c .before .before .before .before .before .before .before .before .before .loop .spot) (c .before .before .before .before .before .before .before .before .before .loop .spots) (c .before .before .before .before .spots-from .result) (c .before .before .before .before .before .before .entry-at .result) _ (c .before .before .before .before .before .before .before .before .before .loop .inv .0) (c .before .before .before .before .before .before .entry-at .ensures .0) (c .before .before .before .before .spots-from .ensures .0) (c .skip-to2 .result) _ (c .before .before .before .before .before .before .before .before .before .before .before .least-pair .ensures) (c .skip-to2 .ensures .0) _ _ (c .before .before .before .held-at .ensures) (c .before .before .agree .ensures) (c .before .if2 .left),
+  c .skip-to2 .ensures .1,
+)
+
+returns-2 : tie.Need-returns-2 Inv-loop μ-loop
+returns-2 c = stands-done _ _ (rw (none-left (now (c .before .before .before .before .before .before .args .words)) (c .before .before .before .before .before .before .args .top) (c .before .before .loop .spot) _ (c .before .is-ended .ensures) (not-false _ (c .if1 .left))) at (c .before .before .loop .inv .0))
 
 pub stands-over-spec : {M : Type 1} → statement M
 stands-over-spec =
@@ -61,16 +73,17 @@ stands-over-spec =
     (tie.spec
     Inv-loop
     μ-loop
-    first-fronts-requires
-    first-entry-requires
+    least-pair-requires
+    skip-to-requires
     loop-holds
-    enum-known-front
-    enum-told
-    returns
-    fronts-from-requires
-    held-first-requires
+    is-ended-requires
+    entry-at-requires
+    spots-from-requires
+    held-at-requires
     agree-requires
-    returns-2
-    next-entry-requires
+    returns
+    add-skip-to
+    skip-to-requires-2
     loop-less
-    loop-again)
+    loop-again
+    returns-2)

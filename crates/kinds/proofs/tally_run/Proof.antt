@@ -1,62 +1,51 @@
--- `tally_run` counts the kinds of a run. The loop's invariant: what is ahead completes the counts. Assumes nothing.
-use Rattle.kinds.specs.Tally.{Counted, counted-none, counted-normal, counted-filter, counted-done, counted-small}
-use Rattle.kinds.specs.Fronts.{ahead-falls}
-use Rattle.entries.specs.Run.{ahead, entriesIn, few-in}
-use lib.ListN.{length}
+-- `tally_run` adds up the counts of a run's pages. The loop's invariant: the pages left complete the counts. Assumes nothing.
+use Prim.Native.Nat.{_-_}
 use denote.Ref.{now}
+use Rattle.entries.specs.Run.{restFrom, entriesIn}
+use Rattle.kinds.specs.Tally.{Counted, run-begun, counted-page, run-counted, run-small}
 use borrow.Author.Needs.{needs}
 use native.Mathlib.Omega.{arith}
 use Rattle.kinds.proofs.tally_run.Statement.{statement}
 use Rattle.kinds.proofs.tally_run.Tie as tie
 
 abbrev Inv-loop : tie.InvT-loop
-Inv-loop words run normal₀ filters₀ front₀ normal filters front = Counted normal filters (ahead words run front) (entriesIn words run)
+Inv-loop words run normal₀ filters₀ page₀ normal filters page = Counted normal filters (restFrom words run page 0 (run .pages - page)) (entriesIn words run)
 
 abbrev μ-loop : tie.MeasureT-loop
-μ-loop words run normal₀ filters₀ front₀ normal filters front = length (ahead words run front)
-
-first-entry-requires : tie.Need-first-entry-requires Inv-loop μ-loop
-first-entry-requires c κs = search needs
+μ-loop words run normal₀ filters₀ page₀ normal filters page = run .pages - page
 
 loop-holds : tie.Need-loop-holds Inv-loop μ-loop
-loop-holds c = rw (c .first-entry .ensures) (counted-none (entriesIn (now (c .before .before .args .words)) (c .before .before .args .run)))
+loop-holds c = run-begun _ _
 
-enum-known-front : tie.Need-enum-known-front Inv-loop μ-loop
-enum-known-front c = search needs
-
-enum-told : tie.Need-enum-told Inv-loop μ-loop
-enum-told c = search needs
-
-returns : tie.Need-returns Inv-loop μ-loop
-returns c = (
-  counted-done (c .before .before .loop .normal) (c .before .before .loop .filters) _ (rw (c .enum-told .given .1) at (c .before .before .loop .inv)),
-  counted-small (c .before .before .loop .normal) (c .before .before .loop .filters) _ _ (few-in (now (c .before .before .before .before .before .args .words)) (c .before .before .before .before .before .args .run) _ (c .before .before .before .before .before .pre)) (c .before .before .loop .inv),
-)
-
-next-entry-requires : tie.Need-next-entry-requires Inv-loop μ-loop
-next-entry-requires c κs = search needs
+tally-page-requires : tie.Need-tally-page-requires Inv-loop μ-loop
+tally-page-requires c κs = search needs
 
 add-normal : tie.Need-add-normal Inv-loop μ-loop
 add-normal c =
-    let so = counted-normal (c .before .before .before .before .before .loop .normal) (c .before .before .before .before .before .loop .filters) _ _ _ (rw (c .before .before .before .front .given .1) at (c .before .before .before .before .before .loop .inv)) (c .if1 .taken) in
-    omega (arith, counted-small _ _ _ _ (few-in (now (c .before .before .before .before .before .before .before .before .args .words)) (c .before .before .before .before .before .before .before .before .args .run) _ (c .before .before .before .before .before .before .before .before .pre)) so .few-normal)
-
-loop-less : tie.Need-loop-less Inv-loop μ-loop
-loop-less c = ahead-falls (now (c .before .before .before .before .before .before .before .before .args .words)) (c .before .before .before .before .before .before .before .before .args .run) (c .before .before .before .before .before .loop .front) _ _ (c .before .next-entry .result) (c .before .before .before .front .given .1) (c .before .next-entry .ensures)
-
-loop-again : tie.Need-loop-again Inv-loop μ-loop
-loop-again c = rw (c .before .next-entry .ensures) (counted-normal (c .before .before .before .before .before .loop .normal) (c .before .before .before .before .before .loop .filters) _ _ _ (rw (c .before .before .before .front .given .1) at (c .before .before .before .before .before .loop .inv)) (c .if1 .taken))
+    let w = now (c .before .before .before .before .before .before .args .words) in
+    let so = counted-page w (c .before .before .before .before .before .before .args .run) (c .before .before .before .before .loop .page) (c .before .before .before .before .loop .normal) (c .before .before .before .before .loop .filters) (c .before .before .before .before .loop .inv) (c .before .tally-page .result) (c .before .before .if1 .taken) (c .before .tally-page .ensures) in
+    omega (arith, run-small w (c .before .before .before .before .before .before .args .run) _ _ _ so _ (c .before .before .before .before .before .before .pre) .few-normal)
 
 add-filters : tie.Need-add-filters Inv-loop μ-loop
 add-filters c =
-    let so = counted-filter (c .before .before .before .before .before .loop .normal) (c .before .before .before .before .before .loop .filters) _ _ _ (rw (c .before .before .before .front .given .1) at (c .before .before .before .before .before .loop .inv)) (c .if1 .left) in
-    omega (arith, counted-small _ _ _ _ (few-in (now (c .before .before .before .before .before .before .before .before .args .words)) (c .before .before .before .before .before .before .before .before .args .run) _ (c .before .before .before .before .before .before .before .before .pre)) so .few-filters)
+    let w = now (c .before .before .before .before .before .before .before .args .words) in
+    let so = counted-page w (c .before .before .before .before .before .before .before .args .run) (c .before .before .before .before .before .loop .page) (c .before .before .before .before .before .loop .normal) (c .before .before .before .before .before .loop .filters) (c .before .before .before .before .before .loop .inv) (c .before .before .tally-page .result) (c .before .before .before .if1 .taken) (c .before .before .tally-page .ensures) in
+    omega (arith, run-small w (c .before .before .before .before .before .before .before .args .run) _ _ _ so _ (c .before .before .before .before .before .before .before .pre) .few-filters)
 
-loop-less-2 : tie.Need-loop-less-2 Inv-loop μ-loop
-loop-less-2 c = ahead-falls (now (c .before .before .before .before .before .before .before .before .args .words)) (c .before .before .before .before .before .before .before .before .args .run) (c .before .before .before .before .before .loop .front) _ _ (c .before .next-entry .result) (c .before .before .before .front .given .1) (c .before .next-entry .ensures)
+add-page : tie.Need-add-page Inv-loop μ-loop
+add-page c = omega (arith, c .before .before .before .if1 .taken)
 
-loop-again-2 : tie.Need-loop-again-2 Inv-loop μ-loop
-loop-again-2 c = rw (c .before .next-entry .ensures) (counted-filter (c .before .before .before .before .before .loop .normal) (c .before .before .before .before .before .loop .filters) _ _ _ (rw (c .before .before .before .front .given .1) at (c .before .before .before .before .before .loop .inv)) (c .if1 .left))
+loop-less : tie.Need-loop-less Inv-loop μ-loop
+loop-less c = omega (arith, c .before .before .before .if1 .taken)
+
+loop-again : tie.Need-loop-again Inv-loop μ-loop
+loop-again c = counted-page (now (c .before .before .before .before .before .before .before .args .words)) (c .before .before .before .before .before .before .before .args .run) (c .before .before .before .before .before .loop .page) (c .before .before .before .before .before .loop .normal) (c .before .before .before .before .before .loop .filters) (c .before .before .before .before .before .loop .inv) (c .before .before .tally-page .result) (c .before .before .before .if1 .taken) (c .before .before .tally-page .ensures)
+
+returns : tie.Need-returns Inv-loop μ-loop
+returns c = (
+  run-counted (now (c .before .before .before .before .args .words)) (c .before .before .before .before .args .run) (c .before .before .loop .page) _ _ (c .before .before .loop .inv) (c .if1 .left),
+  run-small (now (c .before .before .before .before .args .words)) (c .before .before .before .before .args .run) (c .before .before .loop .page) _ _ (c .before .before .loop .inv) _ (c .before .before .before .before .pre),
+)
 
 pub tally-run-spec : {M : Type 1} → statement M
 tally-run-spec =
@@ -64,15 +53,11 @@ tally-run-spec =
     (tie.spec
     Inv-loop
     μ-loop
-    first-entry-requires
     loop-holds
-    enum-known-front
-    enum-told
-    returns
-    next-entry-requires
+    tally-page-requires
     add-normal
+    add-filters
+    add-page
     loop-less
     loop-again
-    add-filters
-    loop-less-2
-    loop-again-2)
+    returns)

@@ -1,0 +1,31 @@
+-- `all_empty` tells so of four runs, from what `is_empty` ensures. Assumes nothing.
+use denote.Ref.{now}
+use Rattle.kinds.specs.Below.{all-none}
+use borrow.Author.Needs.{needs}
+use Rattle.kinds.proofs.all_empty.Statement.{statement}
+use Rattle.kinds.proofs.all_empty.Tie as tie
+
+is-empty-requires : tie.Need-is-empty-requires
+is-empty-requires c κs = search needs
+
+is-empty-requires-2 : tie.Need-is-empty-requires-2
+is-empty-requires-2 c κs = search needs
+
+is-empty-requires-3 : tie.Need-is-empty-requires-3
+is-empty-requires-3 c κs = search needs
+
+is-empty-requires-4 : tie.Need-is-empty-requires-4
+is-empty-requires-4 c κs = search needs
+
+returns : tie.Need-returns
+returns c = all-none (now (c .before .before .before .before .before .before .before .before .before .args .words)) (c .before .before .before .before .before .before .before .before .before .args .runs) _ _ _ _ (c .before .before .before .before .before .before .is-empty .ensures) (c .before .before .before .before .is-empty2 .ensures) (c .before .before .is-empty3 .ensures) (c .is-empty4 .ensures)
+
+pub all-empty-spec : {M : Type 1} → statement M
+all-empty-spec =
+    tie.close
+    (tie.spec
+    is-empty-requires
+    is-empty-requires-2
+    is-empty-requires-3
+    is-empty-requires-4
+    returns)
