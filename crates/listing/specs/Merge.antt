@@ -8,7 +8,8 @@ use mathlib.Core.Bool.{Bool, true, false, not, _&&_}
 use mathlib.Core.List.{List, [], _∷_}
 use mathlib.Core.Option.{Option, none, some}
 use lib.ListN.{length}
-use Rattle.laws.specs.Lists.{passing}
+use Rattle.laws.specs.Lists.{passing, passing-no}
+use Rattle.laws.specs.Tests.{and-false-right}
 use Rattle.slot.specs.declared.Pair.{Pair}
 use Rattle.slot.specs.Pair.{rank, before, same}
 use Rattle.slot.specs.Order.{before-below, not-before-above, same-level, not-same-apart, below-before, above-not-before, level-same, apart-not-same}
@@ -258,11 +259,16 @@ next-is-least n ((e ∷ es) ∷ t) f a q = picked (leastOf t) refl (λ g. next-i
 unfoldable pub wanted : Pair → Pair → Entry → Bool
 wanted first second f = f .normal && (not (before (f .pair) first) && not (before second (f .pair)))
 
-passing-agree : (n : ℕ) (s t : Pair → Bool) → ((p : Pair) → n ≤ rank p → s p ≡ t p) → (ps : List Pair) → PairsFrom n ps → passing s ps ≡ passing t ps
+pub passing-agree : (n : ℕ) (s t : Pair → Bool) → ((p : Pair) → n ≤ rank p → s p ≡ t p) → (ps : List Pair) → PairsFrom n ps → passing s ps ≡ passing t ps
 unfolding PairsFrom passing
 passing-agree n s t h [] a = refl
 passing-agree n s t h (p ∷ ps) a =
     ap₂ (λ (b : Bool) (l : List Pair). elim b [ true ↦ p ∷ l | false ↦ l ]) (h p (a .0)) (passing-agree n s t h ps (a .1))
+
+passing-none : (n : ℕ) (t : Pair → Bool) → ((p : Pair) → n ≤ rank p → t p ≡ false) → (ps : List Pair) → PairsFrom n ps → passing t ps ≡ []
+unfolding PairsFrom passing
+passing-none n t h [] a = refl
+passing-none n t h (p ∷ ps) a = passing-no t p ps (h p (a .0)) ∙ passing-none n t h ps (a .1)
 
 module _ (first second : Pair) where
   -- The pair that comes next is listed if it is wanted, and then those of the levels that moved on.
@@ -291,7 +297,14 @@ module _ (first second : Pair) where
       held-between-next t f m ∙
       ap (λ (b : Bool). elim b [ true ↦ f .pair ∷ heldBetween first second (pastAll (f .pair) t) | false ↦ heldBetween first second (pastAll (f .pair) t) ]) e
 
-  -- A spent tree has none.
+  -- A spent tree has none, nor one whose least pair is past the second.
   pub held-between-none : (t : Tree) → leastOf t ≡ none → heldBetween first second t ≡ []
   unfolding heldBetween passing
   held-between-none t e = ap (passing (λ p. held p t && (not (before p first) && not (before second p)))) (spent t e .pairs)
+
+  pub held-between-over : (t : Tree) (f : Entry) → NextIs t f → before second (f .pair) ≡ true → heldBetween first second t ≡ []
+  unfolding heldBetween
+  held-between-over t f m b = passing-none (rankOf f) _ (λ p h. past-second p (below-before second p (omega (arith, h, before-below second (f .pair) b)))) (pairsOf t) (pairs-of-from (rankOf f) t (m .from))
+    where
+      past-second : (p : Pair) → before second p ≡ true → (held p t && (not (before p first) && not (before second p))) ≡ false
+      past-second p e = and-false-right (held p t) _ (and-false-right (not (before p first)) _ (ap not e))

@@ -7,16 +7,17 @@ ghost use Rattle.geometry.specs.Geometry.{InRange};
 ghost use Rattle.geometry.specs.Places.{planOf, storeWords};
 ghost use Rattle.rules.specs.Sound.{treeOf};
 ghost use Rattle.rules.specs.Listing.{list as listing};
-ghost use Rattle.entries.specs.Run.{Inside, entry as indexed, ahead};
-ghost use Rattle.entries.specs.Levels.{AllInside, PagesWithin, treeIn, first as firstOf, firsts, aheads};
+ghost use Rattle.entries.specs.Run.{Inside, entry as indexed};
+ghost use Rattle.entries.specs.Levels.{AllInside, PagesWithin, treeIn};
 ghost use Rattle.entries.specs.Ascending.{levelsAscend};
-ghost use Rattle.listing.specs.Merge.{lesser as Spec·lesser, lower, leastOf, past, pastAll, wanted};
-ghost use Rattle.listing.specs.Fronts.{told, least};
+ghost use Rattle.entries.specs.Skip.{skipAll};
+ghost use Rattle.entries.specs.Spot.{upcoming, Standing, upcomings, AllStanding};
+ghost use Rattle.listing.specs.Merge.{lesser as Spec·lesser, lower, leastOf, past, pastAll};
+ghost use Rattle.listing.specs.Spots.{told, found};
 use entries::Entry;
-use entries::Fronts;
-use entries::Next;
 use entries::Run;
 use entries::Runs;
+use entries::Spots;
 use geometry::Geometry;
 use geometry::Plan;
 use slot::Pair;
@@ -59,17 +60,20 @@ fn list_runs(store: &[u32], runs: Runs, first: Pair, second: Pair, list: &mut [u
     requires { ⌜ levelsAscend (treeIn (now store) runs) ≡ true ⌝ }
     ensures { λ r. ⌜ told r (now (list .exit)) ≡ listing first second (treeIn (now (store .entry)) runs) (now (list .entry)) ⌝ }
 {
-    let mut fronts = entries::first_fronts(store, runs);
+    let mut spots = spots_at(store, runs, first);
     let room = list.len() / 2;
     let mut pairs: u32 = 0;
     while (pairs as usize) < room {
-        let next = least_of(fronts);
+        let next = least_of(store, runs, spots);
         let Least::Of(entry) = next else {
             return Listed { pairs, mark: 0 };
         };
         let pair = entry.pair;
-        fronts = fronts_past(store, runs, fronts, pair);
-        if is_wanted(first, second, entry) {
+        if slot::comes_before(second, pair) {
+            return Listed { pairs, mark: 0 };
+        }
+        spots = spots_past(store, runs, spots, pair);
+        if entry.normal {
             write_pair(list, 2 * pairs as usize, pair);
             pairs += 1;
         }
@@ -87,41 +91,32 @@ fn write_pair(list: &mut [u32], place: usize, pair: Pair)
     list[place + 1] = floor.0;
 }
 
-// Whether the entry that comes next is listed: held, not before the first pair and not past the second.
-fn is_wanted(first: Pair, second: Pair, entry: Entry) -> bool
-    ensures { λ r. ⌜ r ≡ wanted first second (indexed entry) ⌝ }
-{
-    let pair = entry.pair;
-    if !entry.normal {
-        return false;
-    }
-    if slot::comes_before(pair, first) {
-        return false;
-    }
-    !slot::comes_before(second, pair)
-}
-
 // The pair that comes next, from the bottom up: a level above that has the same pair decides.
-fn least_of(fronts: Fronts) -> Least
-    ensures { λ r. ⌜ least r ≡ leastOf (firsts fronts) ⌝ }
+fn least_of(words: &[u32], runs: Runs, spots: Spots) -> Least
+    requires { ⌜ AllInside runs (length (now words)) ⌝ }
+    requires { ⌜ AllStanding (now words) runs spots ⌝ }
+    ensures { λ r. ⌜ found r ≡ leastOf (upcomings (now (words .entry)) runs spots) ⌝ }
 {
-    let third = fronts.third;
-    let lowest = lower_of(third, Least::Empty);
-    let second = fronts.second;
-    let lower = lower_of(second, lowest);
-    let first = fronts.first;
-    let upper = lower_of(first, lower);
-    let head = fronts.head;
-    lower_of(head, upper)
+    let run = runs.third;
+    let lowest = lower_of(words, run, spots.third, Least::Empty);
+    let run = runs.second;
+    let lower = lower_of(words, run, spots.second, lowest);
+    let run = runs.first;
+    let upper = lower_of(words, run, spots.first, lower);
+    let run = runs.head;
+    lower_of(words, run, spots.head, upper)
 }
 
-// The lesser of what stands first in a level and the least of the levels below it.
-fn lower_of(front: Next, below: Least) -> Least
-    ensures { λ r. ⌜ least r ≡ lower (firstOf front) (least below) ⌝ }
+// The lesser of the entry at a spot and the least of the levels below it.
+fn lower_of(words: &[u32], run: Run, spot: u64, below: Least) -> Least
+    requires { ⌜ Inside run (length (now words)) ⌝ }
+    requires { ⌜ Standing (now words) run spot ⌝ }
+    ensures { λ r. ⌜ found r ≡ lower (upcoming (now (words .entry)) run spot) (found below) ⌝ }
 {
-    let Next::Found(entry, _) = front else {
+    if entries::is_ended(run, spot) {
         return below;
-    };
+    }
+    let entry = entries::entry_at(words, run, spot);
     let Least::Of(other) = below else {
         return Least::Of(entry);
     };
@@ -146,24 +141,21 @@ fn lesser(above: Entry, below: Entry) -> Entry
     below
 }
 
-// Four fronts, each past its entry of a pair.
-fn fronts_past(words: &[u32], runs: Runs, fronts: Fronts, pair: Pair) -> Fronts
+// The spots of four runs from which on no entry is before a pair.
+fn spots_at(words: &[u32], runs: Runs, pair: Pair) -> Spots
     requires { ⌜ AllInside runs (length (now words)) ⌝ }
-    ensures { λ r. ⌜ aheads (now (words .entry)) runs r ≡ pastAll pair (aheads (now (words .entry)) runs fronts) ⌝ }
+    ensures told { λ r. ⌜ upcomings (now (words .entry)) runs r ≡ skipAll pair (treeIn (now (words .entry)) runs) ⌝ }
+    ensures standing { λ r. ⌜ AllStanding (now (words .entry)) runs r ⌝ }
 {
     let run = runs.head;
-    let front = fronts.head;
-    let head = front_past(words, run, front, pair);
+    let head = entries::skip_to(words, run, 0, pair);
     let run = runs.first;
-    let front = fronts.first;
-    let first = front_past(words, run, front, pair);
+    let first = entries::skip_to(words, run, 0, pair);
     let run = runs.second;
-    let front = fronts.second;
-    let second = front_past(words, run, front, pair);
+    let second = entries::skip_to(words, run, 0, pair);
     let run = runs.third;
-    let front = fronts.third;
-    let third = front_past(words, run, front, pair);
-    Fronts {
+    let third = entries::skip_to(words, run, 0, pair);
+    Spots {
         head,
         first,
         second,
@@ -171,17 +163,43 @@ fn fronts_past(words: &[u32], runs: Runs, fronts: Fronts, pair: Pair) -> Fronts
     }
 }
 
-// A front past its entry of a pair, or as it is.
-fn front_past(words: &[u32], run: Run, front: Next, pair: Pair) -> Next
-    requires { ⌜ Inside run (length (now words)) ⌝ }
-    ensures { λ r. ⌜ ahead (now (words .entry)) run r ≡ past pair (ahead (now (words .entry)) run front) ⌝ }
+// Four spots, each past its entry of a pair.
+fn spots_past(words: &[u32], runs: Runs, spots: Spots, pair: Pair) -> Spots
+    requires { ⌜ AllInside runs (length (now words)) ⌝ }
+    requires { ⌜ AllStanding (now words) runs spots ⌝ }
+    ensures told { λ r. ⌜ upcomings (now (words .entry)) runs r ≡ pastAll pair (upcomings (now (words .entry)) runs spots) ⌝ }
+    ensures standing { λ r. ⌜ AllStanding (now (words .entry)) runs r ⌝ }
 {
-    let Next::Found(entry, cursor) = front else {
-        return front;
-    };
+    let run = runs.head;
+    let head = spot_past(words, run, spots.head, pair);
+    let run = runs.first;
+    let first = spot_past(words, run, spots.first, pair);
+    let run = runs.second;
+    let second = spot_past(words, run, spots.second, pair);
+    let run = runs.third;
+    let third = spot_past(words, run, spots.third, pair);
+    Spots {
+        head,
+        first,
+        second,
+        third,
+    }
+}
+
+// A spot past its entry of a pair, or as it is.
+fn spot_past(words: &[u32], run: Run, spot: u64, pair: Pair) -> u64
+    requires { ⌜ Inside run (length (now words)) ⌝ }
+    requires { ⌜ Standing (now words) run spot ⌝ }
+    ensures told { λ r. ⌜ upcoming (now (words .entry)) run r ≡ past pair (upcoming (now (words .entry)) run spot) ⌝ }
+    ensures standing { λ r. ⌜ Standing (now (words .entry)) run r ⌝ }
+{
+    if entries::is_ended(run, spot) {
+        return spot;
+    }
+    let entry = entries::entry_at(words, run, spot);
     let own = entry.pair;
     if slot::same_pair(pair, own) {
-        return entries::next_entry(words, run, cursor);
+        return entries::skip_to(words, run, spot + 1, slot::least_pair());
     }
-    front
+    spot
 }

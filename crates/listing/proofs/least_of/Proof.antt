@@ -1,6 +1,7 @@
--- `least_of` gives the least of four fronts, from what `lower_of` ensures. Assumes nothing.
-use Rattle.entries.specs.Levels.{firsts}
-use Rattle.listing.specs.Merge.{leastOf}
+-- `least_of` gives the least at four spots, from what `lower_of` ensures. Assumes nothing.
+use mathlib.Core.Path.{ap, _∙_}
+use Rattle.entries.specs.Spot.{upcomings}
+use Rattle.listing.specs.Merge.{lower, leastOf}
 use borrow.Author.Needs.{needs}
 use Rattle.listing.proofs.least_of.Statement.{statement}
 use Rattle.listing.proofs.least_of.Tie as tie
@@ -18,8 +19,8 @@ lower-of-requires-4 : tie.Need-lower-of-requires-4
 lower-of-requires-4 c κs = search needs
 
 returns : tie.Need-returns
-unfolding leastOf firsts
-returns c = rw (c .lower-of4 .ensures, c .before .lower-of3 .ensures, c .before .before .lower-of2 .ensures, c .before .before .before .lower-of .ensures)
+unfolding upcomings leastOf
+returns c = c .lower-of4 .ensures ∙ ap (lower _) (c .before .before .lower-of3 .ensures ∙ ap (lower _) (c .before .before .before .before .lower-of2 .ensures ∙ ap (lower _) (c .before .before .before .before .before .before .lower-of .ensures)))
 
 pub least-of-spec : {M : Type 1} → statement M
 least-of-spec =

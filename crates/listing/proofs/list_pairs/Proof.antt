@@ -1,5 +1,5 @@
 -- `list_pairs` lists the tree that the words hold, from what `list_runs` ensures of the four runs. Assumes nothing.
-use Rattle.listing.specs.Fronts.{runs-listed}
+use Rattle.listing.specs.Spots.{runs-listed}
 use Rattle.entries.specs.Levels.{runs-inside, store-nine}
 use Rattle.entries.specs.Ascending.{runs-ascend}
 use mathlib.Core.Path.{_∙_}
