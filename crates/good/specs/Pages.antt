@@ -15,7 +15,7 @@ use Rattle.rules.specs.Woven.{by-weaving}
 use Rattle.rules.specs.Paged.{by-paging}
 
 -- Entries and fences woven are all of both.
-weave-length : (es : Level) (fs : List Slot) → length (weave es fs) ≡ length es + length fs
+pub weave-length : (es : Level) (fs : List Slot) → length (weave es fs) ≡ length es + length fs
 weave-length =
     by-weaving (λ es fs row. length row ≡ length es + length fs) (λ fs. omega arith) (λ e es fs row c ih. omega (arith, ih))
     (λ e es f fs row c ih. omega (arith, ih))

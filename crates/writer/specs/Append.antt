@@ -1,7 +1,6 @@
 -- A level's words in a lent area, slot by slot: those of no slots, and those of one slot more. Assumes nothing.
 use Prim.Native.Nat.{ℕ, zero, suc, _+_, _-_, _*_, _/_, _%_, _≤_, _<_}
 use native.Mathlib.Nat.{zero-add, suc-add}
-use native.Mathlib.Numerals.{add-one}
 use native.Mathlib.Omega.{arith}
 use mathlib.Core.Path.{_≡_, refl, sym, ap, _∙_}
 use mathlib.Core.Bool.{Bool, true, false}
@@ -173,6 +172,32 @@ module _ (slots : List Slot) (s : Slot) where
 
       same-after : (m : ℕ) → concat (span (levelPage slots) (suc page) m) ≡ concat (span (levelPage (slots ++ s ∷ [])) (suc page) m)
       same-after m = ap concat (span-agree (levelPage slots) (levelPage (slots ++ s ∷ [])) (suc page) (suc page) m (λ k b. page-after (suc page + k) (omega arith)))
+
+-- Slots put one behind the other --------------------------------------------------------------------------------------------------------------
+
+-- An area with slots put from position n on, and the position behind them.
+unfoldable pub slotsPut : List ℕ → ℕ → List Slot → List ℕ × ℕ
+slotsPut work n [] = (work, n)
+slotsPut work n (s ∷ ss) = slotsPut (slotPut work n s) (n + 1) ss
+
+pub put-joined : (work : List ℕ) (n : ℕ) (ss ts : List Slot) → slotsPut work n (ss ++ ts) ≡ slotsPut (slotsPut work n ss .0) (slotsPut work n ss .1) ts
+unfolding slotsPut
+put-joined work n [] ts = refl
+put-joined work n (s ∷ ss) ts = put-joined (slotPut work n s) (n + 1) ss ts
+
+pub put-count : (work : List ℕ) (n : ℕ) (ss : List Slot) → slotsPut work n ss .1 ≡ n + length ss
+unfolding slotsPut
+put-count work n [] = omega arith
+put-count work n (s ∷ ss) = omega (arith, put-count (slotPut work n s) (n + 1) ss)
+
+-- Put behind the slots of a level they make the level of all.
+pub slots-appended : (room : ℕ) (ss ts : List Slot) → length ss + length ts ≤ 21 * room →
+    slotsPut (levelWords ss room) (length ss) ts ≡ (levelWords (ss ++ ts) room, length (ss ++ ts))
+unfolding slotsPut
+slots-appended room ss [] h = rw (append-nil ss) refl
+slots-appended room ss (t ∷ ts) h =
+    rw (slot-appended ss t room (omega arith), ← (more-length ss t))
+    (slots-appended room (ss ++ t ∷ []) ts (omega (arith, more-length ss t)) ∙ rw (append-assoc ss (t ∷ []) ts) refl)
 
 -- The level without slots: one page with none, and all else unused ---------------------------------------------------------------------------------
 

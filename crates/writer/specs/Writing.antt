@@ -1,22 +1,24 @@
--- A level written slot by slot into a lent area of whole pages: after n slots the area is the level of the first n. Assumes nothing.
-use Prim.Native.Nat.{ℕ, suc, _+_, _-_, _*_, _/_, _^_, _≤_, _<_}
+-- A level written into a lent area of whole pages, entry by entry: what is still to come makes the area the whole level. Assumes nothing.
+use Prim.Native.Nat.{ℕ, _+_, _-_, _*_, _/_, _≤_}
 use native.Mathlib.Nat.{sub-zero}
 use native.Mathlib.Omega.{arith}
-use native.Mathlib.Numerals.{add-one}
-use mathlib.Core.Path.{_≡_, sym, ap, _∙_, subst}
-use mathlib.Core.List.{List, [], _∷_, _++_}
-use lib.ListN.{length, getD, take, drop, set, replicate, length-drop}
-use lib.Seq.{sets, take-suc, drop-cons, take-all, length-take-le}
+use mathlib.Core.Path.{_≡_, refl, sym, ap, _∙_}
+use mathlib.Core.Bool.{Bool, true}
+use mathlib.Core.List.{List, [], _∷_}
+use lib.ListN.{length, set, replicate}
+use lib.Seq.{sets}
 use Rattle.geometry.specs.Places.{erased}
-use Rattle.slot.specs.declared.Slot.{Slot}
+use Rattle.rules.specs.Tree.{Entry}
 use Rattle.rules.specs.Store.{levelWords}
+use Rattle.written.specs.Stream.{fencedAt, entryNext}
 use Rattle.writer.specs.declared.Source.{Source}
-use Rattle.writer.specs.declared.Pen.{Pen}
-use Rattle.writer.specs.declared.Fed.{Fed}
-use Rattle.writer.specs.declared.Fed.the-variants.{Slot as SlotFed, Ended}
-use Rattle.writer.specs.Source.{levelFrom}
-use Rattle.writer.specs.Feeding.{toCome, fedSlots, PenReady, Behind, FedBehind}
-use Rattle.writer.specs.Append.{slotPut, slot-appended, level-empty, level-length, all-erased}
+use Rattle.writer.specs.declared.Turn.{Turn}
+use Rattle.writer.specs.declared.Turn.the-variants.{Both, Neither}
+use Rattle.writer.specs.Source.{SourceAscends, firstBelow, levelFrom}
+use Rattle.writer.specs.Joining.{Reached, Passed, joined, turnAt, Ready}
+use Rattle.writer.specs.Joining.{ready-first, joined-all, upper-past, lower-past, both-go, none-comes}
+use Rattle.writer.specs.Append.{slotsPut, level-empty, level-length, all-erased}
+use Rattle.writer.specs.Coming.{entrySlots, fenced-first, finished, SameFinish, entry-put, finish-least, finish-whole}
 
 -- The pages that an area has room for.
 abbrev pub roomIn : List ℕ → ℕ
@@ -28,6 +30,20 @@ pub record WholePages (work : List ℕ) : Type 0 where
   pub some : 1 ≤ roomIn work
   pub few : roomIn work ≤ 4096
 
+-- Room for so many slots.
+pub record RoomFor (n : ℕ) (work : List ℕ) : Type 0 where
+  pub enough : n ≤ 21 * roomIn work
+  pub few : roomIn work ≤ 4096
+
+-- Where there is room for so many, there is for fewer; and where an internal fence has room, so has the entry behind it.
+pub room-less : (m n : ℕ) (work area : List ℕ) → RoomFor n work → m ≤ n → length area ≡ length work → RoomFor m area
+room-less m n work area room h kept = record { enough = omega (arith, room .enough, kept); few = omega (arith, room .few, kept) }
+
+pub room-behind : (inner : Bool) (own fence behind : ℕ) (work area : List ℕ) → RoomFor (own + fence + 1) work →
+    fencedAt inner (own + fence) ≡ true → behind ≡ own + 1 → length area ≡ length work → RoomFor (behind + fence + 1) area
+room-behind inner own fence behind work area room f e kept =
+    record { enough = omega (arith, room .enough, fenced-first inner (own + fence) f, kept); few = omega (arith, room .few, kept) }
+
 -- All words erased and the first page's count zero: the level without slots.
 pub level-started : (work : List ℕ) → WholePages work → set (sets work 0 (replicate (length work - 0) erased)) 0 0 ≡ levelWords [] (roomIn work)
 level-started work h =
@@ -38,77 +54,74 @@ pub room-started : (work started : List ℕ) → started ≡ levelWords [] (room
 room-started work started e = omega (arith, ap length e, level-length [] (roomIn work))
 
 module _ (w : List ℕ) (source : Source) (room : ℕ) where
-  -- The area is the level of the slots before the pen, and the others are still to come.
-  pub record Going (work : List ℕ) (pen : Pen) : Type 0 where
-    pub so-far : work ≡ levelWords (take (pen .position) (levelFrom w source)) room
-    pub others : toCome w source pen ≡ drop (pen .position) (levelFrom w source)
-    pub reached : pen .position ≤ length (levelFrom w source)
-    pub ready : PenReady w source pen
+  -- The whole level in its area, and the number of its slots.
+  abbrev wholeLevel : List ℕ × ℕ
+  wholeLevel = (levelWords (levelFrom w source) room, length (levelFrom w source))
 
-  pub going-begins : (work : List ℕ) (pen : Pen) → work ≡ levelWords [] room → toCome w source pen ≡ levelFrom w source → PenReady w source pen →
-      pen .position ≡ 0 → Going work pen
-  going-begins work pen e t r z = record {
-    so-far = e ∙ ap (λ (n : ℕ). levelWords (take n (levelFrom w source)) room) (sym z);
-    others = t ∙ ap (λ (n : ℕ). drop n (levelFrom w source)) (sym z);
-    reached = omega arith;
-    ready = r;
+  -- At two spots, behind so many own slots and so many fences: what is still to come makes the area the whole level.
+  pub record Going (work : List ℕ) (upper lower own fence : ℕ) : Type 0 where
+    pub finishes : finished w source work own fence (joined w source upper lower) ≡ wholeLevel
+    pub ready : Ready w source upper lower
+    pub fence-most : fence ≤ source .below
+    pub whole : length work ≡ 64 * room
+
+  pub going-begins : (work : List ℕ) (upper lower : ℕ) → work ≡ levelWords [] room → length (levelFrom w source) ≤ 21 * room →
+      SourceAscends w source → Reached w (source .upper) 0 upper → Reached w (source .lower) 0 lower → Going work upper lower 0 0
+  going-begins work upper lower e h a above under = record {
+    finishes = finish-whole w source work room (joined w source upper lower) e (joined-all w source upper lower above under) h;
+    ready = ready-first w source upper lower above under a;
+    fence-most = omega arith;
+    whole = ap length e ∙ level-length [] room;
   }
 
-  pub going-length : (work : List ℕ) (pen : Pen) → Going work pen → length work ≡ 64 * room
-  going-length work pen going = ap length (going .so-far) ∙ level-length (take (pen .position) (levelFrom w source)) room
+  module _ (work : List ℕ) (upper lower own fence : ℕ) (going : Going work upper lower own fence) where
+    -- There is room for all fences.
+    pub going-room : length (levelFrom w source) ≤ 21 * room → room ≤ 4096 → RoomFor (own + source .below) work
+    going-room h few =
+        let least = finish-least w source work own fence (joined w source upper lower) in
+        record {
+          enough = omega (arith, least, ap (λ (x : List ℕ × ℕ). x .1) (going .finishes), going .fence-most, going .whole);
+          few = omega (arith, going .whole);
+        }
 
-  module _ (work : List ℕ) (pen : Pen) (going : Going work pen) (fed : Fed) (told : fedSlots w source fed ≡ toCome w source pen) where
-    -- Where the writing ends, the area is the whole level.
-    going-over : fed ≡ Ended → length (levelFrom w source) ≤ pen .position
-    going-over e =
-        let none : [] ≡ drop (pen .position) (levelFrom w source) = ap (fedSlots w source) (sym e) ∙ told ∙ going .others in
-        omega (arith, length-drop (pen .position) (levelFrom w source), ap length none)
+    module _ (t : Turn) (told : t ≡ turnAt w source upper lower) where
+      -- Where no entry comes, the fences finish the area.
+      pub going-ends : t ≡ Neither → (put : List ℕ) (r : ℕ) → (put, r) ≡ finished w source work own fence [] →
+          (put ≡ levelWords (levelFrom w source) room) × (r ≡ length (levelFrom w source))
+      going-ends is put r e =
+          let none = ap (finished w source work own fence) (sym (none-comes w source upper lower t told is)) in
+          let all : _≡_ {A = List ℕ × ℕ} (put, r) wholeLevel = e ∙ none ∙ going .finishes in
+          (ap (λ (x : List ℕ × ℕ). x .0) all, ap (λ (x : List ℕ × ℕ). x .1) all)
 
-    pub going-ends : fed ≡ Ended → work ≡ levelWords (levelFrom w source) room
-    going-ends e = going .so-far ∙ ap (λ (l : List Slot). levelWords l room) (take-all (pen .position) (levelFrom w source) (going-over e))
+      -- Where two cancel, nothing is put.
+      pub going-cancels : t ≡ Both → (u l : ℕ) → Passed w (source .upper) upper u → Passed w (source .lower) lower l → Going work u l own fence
+      going-cancels is u l high low = record {
+        finishes = ap (finished w source work own fence) (both-go w source upper lower t told (going .ready) is u l high low) ∙ going .finishes;
+        ready = lower-past w source u lower (upper-past w source upper lower (going .ready) u high) l low;
+        fence-most = going .fence-most;
+        whole = going .whole;
+      }
 
-    pub going-counts : fed ≡ Ended → pen .position ≡ length (levelFrom w source)
-    going-counts e = omega (arith, going-over e, going .reached)
+    -- The first entry of both: the fences before it are put, and then it is put itself.
+    module _ (e : Entry) (u l : ℕ) (first : e ∷ joined w source u l ≡ joined w source upper lower) (fenced : List ℕ) (later : ℕ)
+        (told : SameFinish w source (e .pair) own work fence fenced later) where
+      still-finishes : finished w source fenced own later (e ∷ joined w source u l) ≡ wholeLevel
+      still-finishes = told e (joined w source u l) refl ∙ ap (finished w source work own fence) first ∙ going .finishes
 
-    module _ (s : Slot) (behind : Pen) (is : fed ≡ SlotFed s behind) where
-      comes : drop (pen .position) (levelFrom w source) ≡ s ∷ toCome w source behind
-      comes = sym (ap (fedSlots w source) (sym is) ∙ told ∙ going .others)
-
-      pub going-on : pen .position < length (levelFrom w source)
-      going-on = omega (arith, length-drop (pen .position) (levelFrom w source), ap length comes)
-
-      -- The slot's page stands in the area.
-      pub going-inside : length (levelFrom w source) ≤ 21 * room → 64 * (pen .position / 21) + 64 ≤ length work
-      going-inside h = omega (arith, going-on, going-length work pen going)
-
-      -- With the slot put in its place, the area is the level of one slot more.
-      pub going-fed : length (levelFrom w source) ≤ 21 * room → FedBehind w source pen fed → Going (slotPut work (pen .position) s) behind
-      going-fed h b =
-          let l : List Slot = levelFrom w source in
-          let n : ℕ = pen .position in
-          let b′ : Behind w source pen s behind = subst (FedBehind w source pen) is b in
-          let next : behind .position ≡ suc n = b′ .one-further ∙ add-one n in
-          let count : length (take n l) ≡ n = length-take-le n l (going .reached) in
-          let front : getD l n s ∷ drop (suc n) l ≡ s ∷ toCome w source behind = sym (drop-cons l n s going-on) ∙ comes in
-          let here : getD l n s ≡ s = cc in
-          let rest : drop (suc n) l ≡ toCome w source behind = cc in
-          let more : take (suc n) l ≡ take n l ++ s ∷ [] = take-suc l n s going-on ∙ ap (λ (t : Slot). take n l ++ t ∷ []) here in
+      pub entry-room : length (levelFrom w source) ≤ 21 * room → room ≤ 4096 → length fenced ≡ length work → RoomFor (own + later + 1) fenced
+      entry-room h few kept =
+          let least = finish-least w source fenced own later (e ∷ joined w source u l) in
           record {
-            so-far =
-                ap (λ (v : List ℕ). slotPut v n s) (going .so-far) ∙ ap (λ (k : ℕ). slotPut (levelWords (take n l) room) k s) (sym count) ∙
-                slot-appended (take n l) s room (omega (arith, going-on)) ∙ ap (λ (t : List Slot). levelWords t room) (sym more) ∙
-                ap (λ (k : ℕ). levelWords (take k l) room) (sym next);
-            others = sym rest ∙ ap (λ (k : ℕ). drop k l) (sym next);
-            reached = omega (arith, going-on, next);
-            ready = b′ .still-ready;
+            enough = omega (arith, least, ap (λ (x : List ℕ × ℕ). x .1) still-finishes, going .whole, kept);
+            few = omega (arith, going .whole, kept);
           }
 
-      pub going-falls : FedBehind w source pen fed → length (levelFrom w source) - behind .position < length (levelFrom w source) - pen .position
-      going-falls b =
-          let b′ : Behind w source pen s behind = subst (FedBehind w source pen) is b in
-          omega (arith, going-on, b′ .one-further)
-
-      pub going-fits : FedBehind w source pen fed → s .page .0 < 2 ^ 30
-      going-fits b =
-          let b′ : Behind w source pen s behind = subst (FedBehind w source pen) is b in
-          b′ .page-fits
+      pub going-on : Ready w source u l → later ≤ source .below → entryNext (firstBelow w source) (source .below) later (e .pair) ≡ true →
+          (put : List ℕ) (r : ℕ) → (put, r + later) ≡ slotsPut fenced (own + later) (entrySlots (source .fenced) (own + later) later e) →
+          length put ≡ length work → Going put u l r later
+      going-on ready most next put r q kept = record {
+        finishes = entry-put w source fenced own later e (joined w source u l) put r next q ∙ still-finishes;
+        ready = ready;
+        fence-most = most;
+        whole = kept ∙ going .whole;
+      }

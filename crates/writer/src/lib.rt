@@ -1,30 +1,29 @@
 // Writes a level from a stream of entries over the fences below: two levels' index entries joined in order, with a fence for each page of
-// the level below, slot by slot into a lent work area that is never read.
-ghost use Prim.Native.Nat.{_+_, _-_, _*_, _/_, _^_, _≤_, _<_};
+// the level below, slot by slot into a lent work area that is never read. A position is counted in two parts: `own`, the entries and
+// internal fences before it, and `fence`, the fences of the level below.
+ghost use Prim.Native.Nat.{_+_, _*_, _^_, _≤_, _<_};
 ghost use mathlib.Core.Path.{_≡_};
-ghost use mathlib.Core.Bool.{false};
+ghost use mathlib.Core.Bool.{true};
 ghost use mathlib.Core.List.{[]};
-ghost use lib.ListN.{length, drop, replicate};
-ghost use lib.Seq.{sets};
-ghost use Rattle.geometry.specs.Places.{erased};
-ghost use Rattle.entries.specs.Run.{Inside, entry as indexed, ahead};
-ghost use Rattle.rules.specs.Level.{index, pagesFor};
+ghost use lib.ListN.{length};
+ghost use Rattle.slot.specs.Pair.{same};
+ghost use Rattle.entries.specs.Run.{Inside, entry as indexed};
+ghost use Rattle.entries.specs.Spot.{pageAt, Standing};
+ghost use Rattle.rules.specs.Level.{pagesFor};
 ghost use Rattle.rules.specs.Store.{levelWords};
-ghost use Rattle.writer.specs.Source.{SourceInside, SourceAscends, levelFrom, emptyRun};
-ghost use Rattle.writer.specs.Joining.{onePair, comesFirst, upperFirst, bothAhead, joinedAhead, Rises, JoinedRises};
-ghost use Rattle.writer.specs.Feeding.{toCome, fedSlots, entryDue, PenReady, FedBehind};
-ghost use Rattle.writer.specs.Append.{slotPut};
-ghost use Rattle.writer.specs.Writing.{roomIn, WholePages};
+ghost use Rattle.written.specs.Stream.{entryNext};
+ghost use Rattle.writer.specs.Source.{SourceInside, SourceAscends, firstBelow, levelFrom, emptyRun};
+ghost use Rattle.writer.specs.Joining.{turnOfTwo, turnAt, Ready, Reached, Passed};
+ghost use Rattle.writer.specs.Append.{slotPut, slotsPut};
+ghost use Rattle.writer.specs.Coming.{entrySlots, finished, SameFinish};
+ghost use Rattle.writer.specs.Writing.{roomIn, WholePages, RoomFor};
 use entries::Entry;
-use entries::Next;
 use entries::Run;
 use geometry::FIRST_SLOT;
 use geometry::PAGE_SLOTS;
 use geometry::PAGE_WORDS;
 use geometry::SLOT_WORDS;
-use slot::Kind;
 use slot::Pair;
-use slot::Pid;
 use slot::Slot;
 use written::entry_next;
 use written::fence_of;
@@ -41,23 +40,12 @@ pub struct Source {
     pub fenced: bool,
 }
 
-// The next entry of two runs joined, with what stands next in each behind it; or nothing left.
-pub enum Joined {
-    First(Entry, Next, Next),
-    Empty,
-}
-
-// A place in the writing of a level: the position in its row of slots, the next fence, and the next entry.
-pub struct Pen {
-    pub position: u32,
-    pub fence: u32,
-    pub next: Joined,
-}
-
-// The next slot of the writing with the pen behind it, or its end.
-pub enum Fed {
-    Slot(Slot, Pen),
-    Ended,
+// Whose entry comes next of two runs: the upper's, the lower's, or both, where they are of one pair; or no entry is left.
+enum Turn {
+    Upper,
+    Lower,
+    Both,
+    Neither,
 }
 
 // Writes a level into the work area, and gives the number of its slots.
@@ -83,15 +71,34 @@ fn write_slots(store: &[u32], work: &mut [u32], source: Source) -> u32
     ensures area { λ _. ⌜ now (work .exit) ≡ levelWords (levelFrom (now (store .entry)) source) (roomIn (now (work .entry))) ⌝ }
     ensures count { λ r. ⌜ r ≡ length (levelFrom (now (store .entry)) source) ⌝ }
 {
-    let mut pen = first_pen(store, source);
+    let above = source.upper;
+    let under = source.lower;
+    let mut upper = spot_from(store, above, 0);
+    let mut lower = spot_from(store, under, 0);
+    let mut own: u32 = 0;
+    let mut fence: u32 = 0;
     loop {
-        let position = pen.position;
-        let fed = next_slot(store, source, pen);
-        let Fed::Slot(slot, behind) = fed else {
-            return position;
-        };
-        put_slot(work, position, slot);
-        pen = behind;
+        match turn_of(store, source, upper, lower) {
+            Turn::Upper => {
+                let entry = entries::entry_at(store, above, upper);
+                upper = past(store, above, upper);
+                fence = put_fences_before(store, work, source, own, fence, entry.pair);
+                own = put_entry(work, source, own, fence, entry);
+            }
+            Turn::Lower => {
+                let entry = entries::entry_at(store, under, lower);
+                lower = past(store, under, lower);
+                fence = put_fences_before(store, work, source, own, fence, entry.pair);
+                own = put_entry(work, source, own, fence, entry);
+            }
+            Turn::Both => {
+                upper = past(store, above, upper);
+                lower = past(store, under, lower);
+            }
+            Turn::Neither => {
+                return put_fences(store, work, source, own, fence);
+            }
+        }
     }
 }
 
@@ -129,7 +136,7 @@ fn start_level(work: &mut [u32])
 
 // Puts a slot at a position of the row: its three words, and its page's count.
 fn put_slot(work: &mut [u32], position: u32, slot: Slot)
-    requires { ⌜ 64 * (position / 21) + 64 ≤ length (now work) ⌝ }
+    requires { ⌜ RoomFor (position + 1) (now work) ⌝ }
     requires { ⌜ slot .page .0 < 2 ^ 30 ⌝ }
     ensures { λ _. ⌜ now (work .exit) ≡ slotPut (now (work .entry)) position slot ⌝ }
 {
@@ -139,180 +146,130 @@ fn put_slot(work: &mut [u32], position: u32, slot: Slot)
     work[page] = number + 1;
 }
 
-// The pen at the beginning of a level.
-pub fn first_pen(store: &[u32], source: Source) -> Pen
+// Puts the fences that come before an entry of a pair, and gives the number of fences then.
+fn put_fences_before(
+    store: &[u32],
+    work: &mut [u32],
+    source: Source,
+    own: u32,
+    fence: u32,
+    pair: Pair,
+) -> u32
     requires { ⌜ SourceInside (now store) source ⌝ }
-    requires { ⌜ SourceAscends (now store) source ⌝ }
-    ensures told { λ r. ⌜ toCome (now (store .entry)) source r ≡ levelFrom (now (store .entry)) source ⌝ }
-    ensures ready { λ r. ⌜ PenReady (now (store .entry)) source r ⌝ }
-    ensures begins { λ r. ⌜ r .position ≡ 0 ⌝ }
+    requires { ⌜ RoomFor (own + source .below) (now work) ⌝ }
+    requires { ⌜ fence ≤ source .below ⌝ }
+    ensures told { λ r. ⌜ SameFinish (now (store .entry)) source pair own (now (work .entry)) fence (now (work .exit)) r ⌝ }
+    ensures next { λ r. ⌜ entryNext (firstBelow (now (store .entry)) source) (source .below) r pair ≡ true ⌝ }
+    ensures most { λ r. ⌜ r ≤ source .below ⌝ }
 {
-    let run = source.upper;
-    let upper = entries::first_entry(store, run);
-    let run = source.lower;
-    let lower = entries::first_entry(store, run);
-    let next = next_joined(store, source, upper, lower);
-    Pen {
-        position: 0,
-        fence: 0,
-        next,
-    }
-}
-
-// The slot that the writing has next, and the pen behind it.
-pub fn next_slot(store: &[u32], source: Source, pen: Pen) -> Fed
-    requires { ⌜ SourceInside (now store) source ⌝ }
-    requires { ⌜ PenReady (now store) source pen ⌝ }
-    requires { ⌜ pen .position + 1 < 2 ^ 32 ⌝ }
-    ensures told { λ r. ⌜ fedSlots (now (store .entry)) source r ≡ toCome (now (store .entry)) source pen ⌝ }
-    ensures behind { λ r. ⌜ FedBehind (now (store .entry)) source pen r ⌝ }
-{
-    let position = pen.position;
-    let fence = pen.fence;
-    let next = pen.next;
-    let Joined::First(entry, upper, lower) = next else {
-        return fence_slot(store, source, pen);
-    };
-    let pair = entry.pair;
     let start = source.below_start as usize;
-    if !entry_next(store, start, source.below, fence, pair) {
-        return fence_slot(store, source, pen);
+    let mut next = fence;
+    while !entry_next(store, start, source.below, next, pair) {
+        put_slot(work, own + next, fence_of(store, start, next));
+        next += 1;
     }
-    let after = position + 1;
-    if fenced_at(source.fenced, position as usize) {
-        return Fed::Slot(
-            inner_fence(pair, fence),
-            Pen {
-                position: after,
-                fence,
-                next,
-            },
-        );
-    }
-    let slot = entries::index_of(entry);
-    let behind = next_joined(store, source, upper, lower);
-    Fed::Slot(
-        slot,
-        Pen {
-            position: after,
-            fence,
-            next: behind,
-        },
-    )
+    next
 }
 
-// The next fence, or the end of the writing where none is left.
-fn fence_slot(store: &[u32], source: Source, pen: Pen) -> Fed
+// Puts the fences that are left, and gives the number of all slots.
+fn put_fences(store: &[u32], work: &mut [u32], source: Source, own: u32, fence: u32) -> u32
     requires { ⌜ SourceInside (now store) source ⌝ }
-    requires { ⌜ PenReady (now store) source pen ⌝ }
-    requires { ⌜ pen .position + 1 < 2 ^ 32 ⌝ }
-    requires { ⌜ entryDue (now store) source pen ≡ false ⌝ }
-    ensures told { λ r. ⌜ fedSlots (now (store .entry)) source r ≡ toCome (now (store .entry)) source pen ⌝ }
-    ensures behind { λ r. ⌜ FedBehind (now (store .entry)) source pen r ⌝ }
+    requires { ⌜ RoomFor (own + source .below) (now work) ⌝ }
+    requires { ⌜ fence ≤ source .below ⌝ }
+    ensures { λ r. ⌜ (now (work .exit), r) ≡ finished (now (store .entry)) source (now (work .entry)) own fence [] ⌝ }
 {
-    let fence = pen.fence;
-    if source.below <= fence {
-        return Fed::Ended;
+    let start = source.below_start as usize;
+    let mut next = fence;
+    while next < source.below {
+        put_slot(work, own + next, fence_of(store, start, next));
+        next += 1;
     }
-    let slot = fence_of(store, source.below_start as usize, fence);
-    let after = pen.position + 1;
-    let later = fence + 1;
-    let next = pen.next;
-    Fed::Slot(
-        slot,
-        Pen {
-            position: after,
-            fence: later,
-            next,
-        },
-    )
+    own + next
 }
 
-// The next entry of two runs joined, from what stands next in each: two entries of one pair cancel, whichever of them is the filter.
-fn next_joined(words: &[u32], source: Source, upper: Next, lower: Next) -> Joined
-    requires { ⌜ SourceInside (now words) source ⌝ }
-    requires { ⌜ Rises (now words) source upper lower ⌝ }
-    ensures told { λ r. ⌜ joinedAhead (now (words .entry)) source r ≡ bothAhead (now (words .entry)) source upper lower ⌝ }
-    ensures rising { λ r. ⌜ JoinedRises (now (words .entry)) source r ⌝ }
+// Puts an entry, with an internal fence before it where it would be first in a page, and gives the number of the level's own slots then.
+fn put_entry(work: &mut [u32], source: Source, own: u32, fence: u32, entry: Entry) -> u32
+    requires { ⌜ RoomFor (own + fence + 1) (now work) ⌝ }
+    requires { ⌜ fence ≤ 2 ^ 30 ⌝ }
+    ensures { λ r. ⌜ (now (work .exit), r + fence) ≡
+        slotsPut (now (work .entry)) (own + fence) (entrySlots (source .fenced) (own + fence) fence (indexed entry)) ⌝ }
+{
+    let pair = entry.pair;
+    let slot = entries::index_of(entry);
+    if fenced_at(source.fenced, (own + fence) as usize) {
+        let behind = put_own(work, own, fence, inner_fence(pair, fence));
+        return put_own(work, behind, fence, slot);
+    }
+    put_own(work, own, fence, slot)
+}
+
+// Puts an entry's slot or an internal fence, and gives the number of the level's own slots then.
+fn put_own(work: &mut [u32], own: u32, fence: u32, slot: Slot) -> u32
+    requires { ⌜ RoomFor (own + fence + 1) (now work) ⌝ }
+    requires { ⌜ slot .page .0 < 2 ^ 30 ⌝ }
+    ensures area { λ _. ⌜ now (work .exit) ≡ slotPut (now (work .entry)) (own + fence) slot ⌝ }
+    ensures count { λ r. ⌜ r ≡ own + 1 ⌝ }
+{
+    put_slot(work, own + fence, slot);
+    own + 1
+}
+
+// Whose entry comes next at two spots.
+fn turn_of(store: &[u32], source: Source, upper: u64, lower: u64) -> Turn
+    requires { ⌜ SourceInside (now store) source ⌝ }
+    requires { ⌜ Ready (now store) source upper lower ⌝ }
+    ensures { λ r. ⌜ r ≡ turnAt (now (store .entry)) source upper lower ⌝ }
 {
     let above = source.upper;
-    let below = source.lower;
-    let mut high = upper;
-    let mut low = lower;
-    while one_pair(high, low) {
-        high = past(words, above, high);
-        low = past(words, below, low);
+    let under = source.lower;
+    if entries::is_ended(above, upper) {
+        if entries::is_ended(under, lower) {
+            return Turn::Neither;
+        }
+        return Turn::Lower;
     }
-    lesser(words, source, high, low)
+    if entries::is_ended(under, lower) {
+        return Turn::Upper;
+    }
+    let high = entries::entry_at(store, above, upper);
+    let low = entries::entry_at(store, under, lower);
+    turn_of_two(high, low)
 }
 
-// Whether two runs have an entry of one pair next.
-fn one_pair(upper: Next, lower: Next) -> bool
-    ensures { λ r. ⌜ r ≡ onePair upper lower ⌝ }
+// Whose entry comes next of two.
+fn turn_of_two(high: Entry, low: Entry) -> Turn
+    ensures { λ r. ⌜ r ≡ turnOfTwo (indexed high) (indexed low) ⌝ }
 {
-    let Next::Found(above, _) = upper else {
-        return false;
-    };
-    let Next::Found(below, _) = lower else {
-        return false;
-    };
-    slot::same_pair(above.pair, below.pair)
+    if cancel(high, low) {
+        return Turn::Both;
+    }
+    if slot::comes_before(high.pair, low.pair) {
+        return Turn::Upper;
+    }
+    Turn::Lower
 }
 
-// What stands next in a run behind its next entry.
-fn past(words: &[u32], run: Run, front: Next) -> Next
+// Whether two entries cancel: those of one pair do, whichever of them is the filter.
+fn cancel(high: Entry, low: Entry) -> bool
+    ensures { λ r. ⌜ r ≡ same (high .pair) (low .pair) ⌝ }
+{
+    slot::same_pair(high.pair, low.pair)
+}
+
+// Where the entry behind one stands.
+fn past(words: &[u32], run: Run, spot: u64) -> u64
     requires { ⌜ Inside run (length (now words)) ⌝ }
-    ensures { λ r. ⌜ ahead (now (words .entry)) run r ≡ drop 1 (ahead (now (words .entry)) run front) ⌝ }
+    requires { ⌜ Standing (now words) run spot ⌝ }
+    requires { ⌜ pageAt spot < run .pages ⌝ }
+    ensures { λ r. ⌜ Passed (now (words .entry)) run spot r ⌝ }
 {
-    let Next::Found(_, cursor) = front else {
-        return front;
-    };
-    entries::next_entry(words, run, cursor)
+    spot_from(words, run, spot + 1)
 }
 
-// Of two runs' next entries, which are not of one pair, the one whose pair comes first.
-fn lesser(words: &[u32], source: Source, upper: Next, lower: Next) -> Joined
-    requires { ⌜ SourceInside (now words) source ⌝ }
-    requires { ⌜ Rises (now words) source upper lower ⌝ }
-    requires { ⌜ onePair upper lower ≡ false ⌝ }
-    ensures told { λ r. ⌜ joinedAhead (now (words .entry)) source r ≡ bothAhead (now (words .entry)) source upper lower ⌝ }
-    ensures rising { λ r. ⌜ JoinedRises (now (words .entry)) source r ⌝ }
+// Where the first entry at or after a spot stands.
+fn spot_from(words: &[u32], run: Run, from: u64) -> u64
+    requires { ⌜ Inside run (length (now words)) ⌝ }
+    ensures { λ r. ⌜ Reached (now (words .entry)) run from r ⌝ }
 {
-    let Next::Found(entry, cursor) = upper else {
-        return lower_next(words, source, upper, lower);
-    };
-    let pair = entry.pair;
-    if !comes_first(pair, lower) {
-        return lower_next(words, source, upper, lower);
-    }
-    let run = source.upper;
-    let behind = entries::next_entry(words, run, cursor);
-    Joined::First(entry, behind, lower)
-}
-
-// The lower run's next entry, if there is one.
-fn lower_next(words: &[u32], source: Source, upper: Next, lower: Next) -> Joined
-    requires { ⌜ SourceInside (now words) source ⌝ }
-    requires { ⌜ Rises (now words) source upper lower ⌝ }
-    requires { ⌜ upperFirst upper lower ≡ false ⌝ }
-    requires { ⌜ onePair upper lower ≡ false ⌝ }
-    ensures told { λ r. ⌜ joinedAhead (now (words .entry)) source r ≡ bothAhead (now (words .entry)) source upper lower ⌝ }
-    ensures rising { λ r. ⌜ JoinedRises (now (words .entry)) source r ⌝ }
-{
-    let Next::Found(entry, cursor) = lower else {
-        return Joined::Empty;
-    };
-    let run = source.lower;
-    let behind = entries::next_entry(words, run, cursor);
-    Joined::First(entry, upper, behind)
-}
-
-// Whether a pair comes before the next entry of a run, or the run has none.
-fn comes_first(pair: Pair, front: Next) -> bool
-    ensures { λ r. ⌜ r ≡ comesFirst pair front ⌝ }
-{
-    let Next::Found(entry, _) = front else {
-        return true;
-    };
-    slot::comes_before(pair, entry.pair)
+    entries::skip_to(words, run, from, slot::least_pair())
 }

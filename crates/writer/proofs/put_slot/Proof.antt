@@ -25,7 +25,7 @@ add-write-slot-2 : tie.Need-add-write-slot-2
 add-write-slot-2 c = search needs
 
 write-slot-requires : tie.Need-write-slot-requires
-write-slot-requires c κs = (omega (arith, c .before .before .pre .0), c .before .before .pre .1)
+write-slot-requires c κs = (omega (arith, c .before .before .pre .0 .enough), c .before .before .pre .1)
 
 add-work : tie.Need-add-work
 add-work c = search needs
@@ -34,7 +34,7 @@ mul-work : tie.Need-mul-work
 mul-work c = search needs
 
 slice-write-work : tie.Need-slice-write-work
-slice-write-work c = rw (c .before .before .write-slot .ensures) (simp length-sets (omega (arith, c .before .before .before .before .before .pre .0)))
+slice-write-work c = rw (c .before .before .write-slot .ensures) (simp length-sets (omega (arith, c .before .before .before .before .before .pre .0 .enough)))
 
 same-length : tie.Need-same-length
 same-length c = search needs
