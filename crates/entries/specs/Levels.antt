@@ -18,10 +18,7 @@ use Rattle.rules.specs.Tree.{Level, Tree}
 use Rattle.rules.specs.Sound.{pagesOf, slotsFrom, headSlots, countAt, pageSlots as slotsOfPage, levelSlots, entriesOf, treeOf}
 use Rattle.entries.specs.declared.Run.{Run}
 use Rattle.entries.specs.declared.Runs.{Runs}
-use Rattle.entries.specs.declared.Fronts.{Fronts}
-use Rattle.entries.specs.declared.Next.{Next}
-use Rattle.entries.specs.declared.Next.the-variants.{Found, Nothing}
-use Rattle.entries.specs.Run.{entry, Inside, countIn, placeIn, pageIn, entriesIn, ahead}
+use Rattle.entries.specs.Run.{Inside, countIn, placeIn, pageIn, entriesIn}
 
 -- The head is a run of one page, whose slot count stands in word 8; level i's pages begin at its start.
 unfoldable pub headRun : Geometry → Run
@@ -33,20 +30,9 @@ levelRun g w i = record { start = levelStart g i; pages = pagesOf g w i; most = 
 unfoldable pub runsOf : Geometry → List ℕ → Runs
 runsOf g w = record { head = headRun g; first = levelRun g w 1; second = levelRun g w 2; third = levelRun g w 3 }
 
--- The entries of four runs as a tree, and those still ahead.
+-- The entries of four runs as a tree.
 unfoldable pub treeIn : List ℕ → Runs → Tree
 treeIn w rs = entriesIn w (rs .head) ∷ entriesIn w (rs .first) ∷ entriesIn w (rs .second) ∷ entriesIn w (rs .third) ∷ []
-
-unfoldable pub aheads : List ℕ → Runs → Fronts → Tree
-aheads w rs fs = ahead w (rs .head) (fs .head) ∷ ahead w (rs .first) (fs .first) ∷ ahead w (rs .second) (fs .second) ∷ ahead w (rs .third) (fs .third) ∷ []
-
--- What stands first in a front, and in each of four.
-abbrev pub first : Next → Level
-first (Found e c) = entry e ∷ []
-first Nothing = []
-
-unfoldable pub firsts : Fronts → Tree
-firsts fs = first (fs .head) ∷ first (fs .first) ∷ first (fs .second) ∷ first (fs .third) ∷ []
 
 -- Four runs lie inside so many words.
 pub record AllInside (rs : Runs) (words : ℕ) : Type 0 where

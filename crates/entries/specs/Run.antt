@@ -10,7 +10,6 @@ use lib.ListN.{length, getD, length-append}
 use Rattle.laws.specs.Lists.{span, concat}
 use Rattle.geometry.specs.Places.{slotWords, pageWords}
 use Rattle.slot.specs.declared.Slot.{Slot}
-use Rattle.slot.specs.declared.Kind.the-variants.{Normal, Filter}
 use Rattle.slot.specs.Slot.{slotAt}
 use Rattle.rules.specs.Tree.{Level}
 use Rattle.rules.specs.Tree.{Entry as Indexed}
@@ -20,10 +19,6 @@ use Rattle.rules.specs.Sound.{entriesOf}
 use Rattle.entries.specs.declared.Run.{Run}
 use Rattle.entries.specs.declared.Cursor.{Cursor}
 use Rattle.entries.specs.declared.Entry.{Entry}
-use Rattle.entries.specs.declared.Next.{Next}
-use Rattle.entries.specs.declared.Next.the-variants.{Found, Nothing}
-use Rattle.entries.specs.declared.Shown.{Shown}
-use Rattle.entries.specs.declared.Shown.the-variants.{Index, Fence}
 
 -- The rules' entry of one that was read.
 abbrev pub entry : Entry → Indexed
@@ -43,10 +38,6 @@ unfoldable pub placeIn : Run → ℕ → ℕ → ℕ
 placeIn run p j = run .start + pageWords * p + 1 + slotWords * j
 
 -- What one slot shows, as entries: one or none.
-abbrev pub shown : Shown → Level
-shown (Index e) = entry e ∷ []
-shown Fence = []
-
 unfoldable pub shownAt : List ℕ → ℕ → Level
 shownAt w place = entriesOf (slotAt w place ∷ [])
 
@@ -62,13 +53,9 @@ unfoldable pub restFrom : List ℕ → Run → ℕ → ℕ → ℕ → Level
 restFrom w run p j zero = []
 restFrom w run p j (suc n) = entriesOf (span (λ k. slotAt w (placeIn run p k)) j (countIn w run p - j)) ++ restFrom w run (suc p) 0 n
 
--- Those from a cursor on, and those ahead of one that found an entry.
+-- Those from a cursor on.
 unfoldable pub rest : List ℕ → Run → Cursor → Level
 rest w run c = restFrom w run (c .page .0) (c .slot .0) (run .pages - c .page .0)
-
-abbrev pub ahead : List ℕ → Run → Next → Level
-ahead w run (Found e c) = entry e ∷ rest w run c
-ahead w run Nothing = []
 
 -- Entries of slots joined end to end.
 pub entries-joined : (xs ys : List Slot) → entriesOf (xs ++ ys) ≡ entriesOf xs ++ entriesOf ys
@@ -82,19 +69,7 @@ entries-joined (s ∷ xs) ys = kept (fenceKind (s .kind)) (entries-joined xs ys)
     kept true ih = ih
     kept false ih = rw ih
 
--- What a slot shows, by its kind.
-pub shown-normal : (w : List ℕ) (place : ℕ) (s : Slot) → s ≡ slotAt w place → s .kind ≡ Normal → record { pair = s .pair; normal = true } ∷ [] ≡ shownAt w place
-unfolding shownAt entriesOf
-shown-normal w place s e k = rw (← e, k)
-
-pub shown-filter : (w : List ℕ) (place : ℕ) (s : Slot) → s ≡ slotAt w place → s .kind ≡ Filter → record { pair = s .pair; normal = false } ∷ [] ≡ shownAt w place
-unfolding shownAt entriesOf
-shown-filter w place s e k = rw (← e, k)
-
-pub shown-fence : (w : List ℕ) (place : ℕ) (s : Slot) → s ≡ slotAt w place → fenceKind (s .kind) ≡ true → [] ≡ shownAt w place
-unfolding shownAt entriesOf
-shown-fence w place s e k = rw (← e, k, entriesOf)
-
+-- What a slot that is an index entry shows.
 pub index-first : (s : Slot) (ss : List Slot) → fenceKind (s .kind) ≡ false → entriesOf (s ∷ ss) ≡ record { pair = s .pair; normal = normalKind (s .kind) } ∷ entriesOf ss
 unfolding entriesOf
 index-first s ss k = rw (k, entriesOf)
@@ -112,7 +87,7 @@ module _ (w : List ℕ) (run : Run) where
       omega (arith, i .ends, min-le-right (getD w (run .start + 64 * p) 0) (run .most), e, at)
 
   -- From a slot on there is what that slot shows, and then what follows it.
-  pub rest-shown : (p j : ℕ) → p < run .pages → j < countIn w run p →
+  rest-shown : (p j : ℕ) → p < run .pages → j < countIn w run p →
       restFrom w run p j (run .pages - p) ≡ shownAt w (placeIn run p j) ++ restFrom w run p (j + 1) (run .pages - p)
   unfolding restFrom shownAt span
   rest-shown p j h b =
@@ -122,21 +97,9 @@ module _ (w : List ℕ) (run : Run) where
       rw (left, slots, add-one j, entries-joined (at j ∷ []) (span at (suc j) (countIn w run p - suc j)))
       (append-assoc (entriesOf (at j ∷ [])) _ _)
 
-  module _ (p j n place : ℕ) (h : p < run .pages) (counted : n ≡ countIn w run p) where
-    pub rest-found : (e : Entry) → j < n → place ≡ placeIn run p j → entry e ∷ [] ≡ shownAt w place →
-        entry e ∷ restFrom w run p (j + 1) (run .pages - p) ≡ restFrom w run p j (run .pages - p)
-    rest-found e b at found = sym (rest-shown p j h (omega arith) ∙ rw (← at, ← found))
-
-    pub rest-passed : j < n → place ≡ placeIn run p j → [] ≡ shownAt w place → restFrom w run p (j + 1) (run .pages - p) ≡ restFrom w run p j (run .pages - p)
-    rest-passed b at none = sym (rest-shown p j h (omega arith) ∙ rw (← at, ← none))
-
-  -- Past a page's last slot the next page begins.
-  pub rest-turned : (p j : ℕ) → p < run .pages → countIn w run p ≤ j → restFrom w run p j (run .pages - p) ≡ restFrom w run (p + 1) 0 (run .pages - (p + 1))
-  unfolding restFrom span entriesOf
-  rest-turned p j h b =
-      let left : run .pages - p ≡ suc (run .pages - suc p) = omega arith in
-      let slots : countIn w run p - j ≡ 0 = omega arith in
-      rw (left, slots, add-one p)
+  pub rest-found : (p j place : ℕ) (e : Entry) → p < run .pages → j < countIn w run p → place ≡ placeIn run p j → entry e ∷ [] ≡ shownAt w place →
+      entry e ∷ restFrom w run p (j + 1) (run .pages - p) ≡ restFrom w run p j (run .pages - p)
+  rest-found p j place e h b at found = sym (rest-shown p j h b ∙ rw (← at, ← found))
 
   -- Past the last page there is nothing.
   pub rest-none : (p j : ℕ) → run .pages ≤ p → restFrom w run p j (run .pages - p) ≡ []

@@ -135,4 +135,4 @@ module _ (w : List ℕ) (run : Run) (spot words : ℕ) (inside : Inside run word
         let index = ap (λ (s : Slot). fenceKind (s .kind)) (slot-read w run (pageAt spot) (slotNumber spot) place s there read) ∙ stands .index-there h in
         let e : Entry = record { pair = s .pair; normal = normalKind (s .kind) } in
         rw (kind, next-page, next-slot)
-        (rest-found w run (pageAt spot) (slotNumber spot) (countIn w run (pageAt spot)) place h refl e (stands .in-page h) there (shown-index w place s read index))
+        (rest-found w run (pageAt spot) (slotNumber spot) place e h (stands .in-page h) there (shown-index w place s read index))

@@ -1,4 +1,4 @@
-// A cursor by value over the index entries of one run in lent words: a level's pages, or the head.
+// The index entries of one run in lent words, a level's pages or the head, in turn: from a spot on, and from a pair on.
 ghost use Prim.Native.Nat.{_+_, _^_, _<_, _≤_};
 ghost use mathlib.Core.Path.{_≡_};
 ghost use mathlib.Core.Bool.{true};
@@ -6,8 +6,8 @@ ghost use mathlib.Core.List.{_∷_};
 ghost use lib.ListN.{length};
 ghost use lib.Dec.{leb};
 ghost use Rattle.rules.specs.Level.{index};
-ghost use Rattle.entries.specs.Run.{Inside, entry as indexed, countIn, placeIn, shown, shownAt, entriesIn, rest, ahead};
-ghost use Rattle.entries.specs.Levels.{AllInside, levelRun, runsOf, treeIn, aheads};
+ghost use Rattle.entries.specs.Run.{Inside, entry as indexed, countIn, placeIn};
+ghost use Rattle.entries.specs.Levels.{levelRun, runsOf};
 ghost use Rattle.entries.specs.Skip.{skip, stopsAt, pageFrom, slotIn};
 ghost use Rattle.entries.specs.Spot.{spotOf, cursorAt, pageAt, upcoming, Standing};
 ghost use Rattle.geometry.specs.Places.{levelStart, planOf};
@@ -35,7 +35,7 @@ pub struct Cursor {
     pub slot: SlotNo,
 }
 
-// A cursor may also be one number, a spot, which stays in a register: so many times its page number, and its slot number.
+// A spot is a cursor in one number, which stays in a register: so many times its page number, and its slot number.
 const PAGE_STEP: u64 = 4294967296;
 
 // An index entry: a pair, and normal or a filter.
@@ -44,32 +44,12 @@ pub struct Entry {
     pub normal: bool,
 }
 
-// The next index entry with the cursor past it, or nothing left.
-pub enum Next {
-    Found(Entry, Cursor),
-    Nothing,
-}
-
-// What a slot shows: an index entry, or a fence.
-enum Shown {
-    Index(Entry),
-    Fence,
-}
-
 // The runs of four levels, from the top down. A level that does not exist has no pages.
 pub struct Runs {
     pub head: Run,
     pub first: Run,
     pub second: Run,
     pub third: Run,
-}
-
-// What stands next in each of four runs.
-pub struct Fronts {
-    pub head: Next,
-    pub first: Next,
-    pub second: Next,
-    pub third: Next,
 }
 
 // Spots in each of four runs.
@@ -124,72 +104,6 @@ pub fn level_run(store: &[u32], g: Geometry, level: u32, start: u32) -> Run
     }
 }
 
-// The first index entry of each of four runs.
-pub fn first_fronts(words: &[u32], runs: Runs) -> Fronts
-    requires { ⌜ AllInside runs (length (now words)) ⌝ }
-    ensures { λ r. ⌜ aheads (now (words .entry)) runs r ≡ treeIn (now (words .entry)) runs ⌝ }
-{
-    let run = runs.head;
-    let head = first_entry(words, run);
-    let run = runs.first;
-    let first = first_entry(words, run);
-    let run = runs.second;
-    let second = first_entry(words, run);
-    let run = runs.third;
-    let third = first_entry(words, run);
-    Fronts {
-        head,
-        first,
-        second,
-        third,
-    }
-}
-
-// The first index entry of a run.
-pub fn first_entry(words: &[u32], run: Run) -> Next
-    requires { ⌜ Inside run (length (now words)) ⌝ }
-    ensures { λ r. ⌜ ahead (now (words .entry)) run r ≡ entriesIn (now (words .entry)) run ⌝ }
-{
-    next_entry(
-        words,
-        run,
-        Cursor {
-            page: Pid(0),
-            slot: SlotNo(0),
-        },
-    )
-}
-
-// The next index entry at or after a cursor.
-pub fn next_entry(words: &[u32], run: Run, from: Cursor) -> Next
-    requires { ⌜ Inside run (length (now words)) ⌝ }
-    ensures { λ r. ⌜ ahead (now (words .entry)) run r ≡ rest (now (words .entry)) run from ⌝ }
-{
-    let first = from.page;
-    let standing = from.slot;
-    let mut page = first.0;
-    let mut slot = standing.0;
-    while page < run.pages {
-        if slot < count_in(words, run, page) {
-            let seen = read_entry(words, place_in(run, page, slot));
-            slot += 1;
-            if let Shown::Index(entry) = seen {
-                return Next::Found(
-                    entry,
-                    Cursor {
-                        page: Pid(page),
-                        slot: SlotNo(slot),
-                    },
-                );
-            }
-        } else {
-            page += 1;
-            slot = 0;
-        }
-    }
-    Next::Nothing
-}
-
 // The slot count of a page, read as at most the run's.
 pub fn count_in(words: &[u32], run: Run, page: u32) -> u32
     requires { ⌜ Inside run (length (now words)) ⌝ }
@@ -208,25 +122,6 @@ pub fn place_in(run: Run, page: u32, slot: u32) -> usize
         + geometry::PAGE_WORDS * page as usize
         + geometry::FIRST_SLOT
         + geometry::SLOT_WORDS * slot as usize
-}
-
-// What the slot at a place shows.
-fn read_entry(words: &[u32], place: usize) -> Shown
-    requires { ⌜ place + 3 ≤ length (now words) ⌝ }
-    ensures { λ r. ⌜ shown r ≡ shownAt (now (words .entry)) place ⌝ }
-{
-    let read = slot::read_slot(words, place);
-    let pair = read.pair;
-    let kind = read.kind;
-    match kind {
-        Kind::Normal => Shown::Index(Entry { pair, normal: true }),
-        Kind::Filter => Shown::Index(Entry {
-            pair,
-            normal: false,
-        }),
-        Kind::External => Shown::Fence,
-        Kind::Internal => Shown::Fence,
-    }
 }
 
 // The slot that an index entry is written in.
