@@ -29,7 +29,7 @@ use Rattle.rules.specs.Tree.{Entry}
 use Rattle.rules.specs.Level.{index, fenceKind}
 use Rattle.rules.specs.Sound.{geometryOf, pagesOf, headSlots, entriesOf, fencePages, directoryRight, headRight}
 use Rattle.walk.specs.declared.Walked.the-variants.{Found}
-use Rattle.page.specs.declared.Scan.{Scan}
+use Rattle.walk.specs.declared.HeadRead.{HeadRead}
 use Rattle.walk.specs.Passes.{headScanned, head-reach, head-entries}
 use Rattle.walk.specs.Read.{head-tests, head-some}
 use Rattle.walk.specs.Walk.{walked, found-directory, found-head, pages-in-room}
@@ -102,7 +102,7 @@ unfolding reach
 reach-least g w p right = rw (head-reach g w p) at (head-some g w p right)
 
 -- A pass over the head has counted its entries, and the slots at most the pair.
-pub record Scanned (g : Geometry) (w : List ℕ) (e : Entry) (scan : Scan) : Type 0 where
+pub record Scanned (g : Geometry) (w : List ℕ) (e : Entry) (scan : HeadRead) : Type 0 where
   pub counted : scan .entries ≡ length (entriesOf (headSlots g w))
   pub few : scan .entries ≤ 64
   pub reached : scan .reach ≡ reach (e .pair) (headSlots g w)
@@ -129,15 +129,15 @@ module _ (g : Geometry) (plan : Plan) (w : List ℕ) (e : Entry) (decider : ℕ)
   }
 
   -- What a pass over the head for the pair finds.
-  pub accepted-scanned : (scan : Scan) → scan ≡ headScanned g w (e .pair) → Scanned g w e scan
+  pub accepted-scanned : (scan : HeadRead) → scan ≡ headScanned g w (e .pair) → Scanned g w e scan
   unfolding reach headSlots
   accepted-scanned scan found =
-      let counted : scan .entries ≡ length (entriesOf (headSlots g w)) = ap (λ (c : Scan). c .entries) found ∙ head-entries g w (e .pair) in
+      let counted : scan .entries ≡ length (entriesOf (headSlots g w)) = ap (λ (c : HeadRead). c .entries) found ∙ head-entries g w (e .pair) in
       let some = ltb-true (length (entriesOf (headSlots g w))) (g .head) (head-tests g w (e .pair) accepted-head .1) in
       record {
         counted = counted;
         few = omega (arith, counted, some, lends .in-range .head-most);
-        reached = ap (λ (c : Scan). c .reach) found ∙ head-reach g w (e .pair);
+        reached = ap (λ (c : HeadRead). c .reach) found ∙ head-reach g w (e .pair);
       }
 
   -- So the head can be edited behind the slots at most the pair.

@@ -1,48 +1,46 @@
--- What the clauses of src/lib.rt cite of a pass over slots, and what the pass tells of them: slot order, legal tags, entries, fences in
--- turn, and how many slots are at most the pair asked. Assumes nothing.
-use Prim.Native.Nat.{ℕ, zero, suc, _+_, _-_, _*_, _≤_, _<_}
+-- What the clauses of src/lib.rt cite of a pass over slots: slot order, right tags, fences, and how many slots are at most the pair asked.
+-- Assumes nothing.
+use Prim.Native.Nat.{ℕ, _+_, _-_, _*_, _≤_, _<_}
 use native.Mathlib.Nat.{sub-zero}
 use native.Mathlib.Omega.{arith}
-use mathlib.Core.Path.{_≡_, refl}
+use mathlib.Core.Path.{_≡_, sym, _∙_}
 use mathlib.Core.Bool.{Bool, true, false, not, _&&_, _||_, cond}
 use mathlib.Core.List.{List, [], _∷_}
-use lib.Dec.{eqb}
+use lib.Dec.{ltb, eqb}
 use Rattle.laws.specs.Lists.{span, span-next, span-end}
 use Rattle.slot.specs.declared.Pair.{Pair}
 use Rattle.slot.specs.declared.Slot.{Slot}
-use Rattle.slot.specs.Pair.{least, before, same}
+use Rattle.slot.specs.Pair.{rank, before}
 use Rattle.slot.specs.Slot.{slotAt}
 use Rattle.rules.specs.Level.{fenceKind}
-use Rattle.rules.specs.Sound.{legal, slotsFrom}
+use Rattle.rules.specs.Sound.{slotsFrom}
 use Rattle.page.specs.declared.Scan.{Scan}
 
 -- Pairs never fall, and only a fence is followed by its own pair.
-unfoldable pub mayFollow : Pair → Bool → Pair → Bool
-mayFollow last fence pair = before last pair || (same last pair && fence)
+unfoldable pub mayFollow : ℕ → Bool → ℕ → Bool
+mayFollow last fence next = ltb last next || (eqb last next && fence)
 
 unfoldable pub started : Scan
-started = record { last = least; «last_fence» = true; formed = true; entries = 0; fences = 0; «in_turn» = true; reach = 0 }
+started = record { last = 0; «last_fence» = true; formed = true; fences = 0; reach = 0 }
 
-unfoldable pub stepped : Pair → Bool → ℕ → Scan → Slot → Scan
-stepped asked inner below c s =
+unfoldable pub stepped : Pair → Scan → Slot → Bool → Scan
+stepped asked c s right =
     let fence = fenceKind (s .kind) in
     record {
-      last = s .pair;
+      last = rank (s .pair);
       «last_fence» = fence;
-      formed = c .formed && (mayFollow (c .last) (c .«last_fence») (s .pair) && legal inner below s);
-      entries = c .entries + cond (not fence) 1 0;
+      formed = c .formed && (mayFollow (c .last) (c .«last_fence») (rank (s .pair)) && right);
       fences = c .fences + cond fence 1 0;
-      «in_turn» = c .«in_turn» && (not fence || eqb (s .page .0) (c .fences));
       reach = c .reach + cond (not (before asked (s .pair))) 1 0;
     }
 
-unfoldable pub scanned : Pair → Bool → ℕ → Scan → List Slot → Scan
-scanned asked inner below c [] = c
-scanned asked inner below c (s ∷ ss) = scanned asked inner below (stepped asked inner below c s) ss
+-- A pass that tests each slot's tag by the fences before it.
+unfoldable pub scanned : Pair → (ℕ → Slot → Bool) → Scan → List Slot → Scan
+scanned asked right c [] = c
+scanned asked right c (s ∷ ss) = scanned asked right (stepped asked c s (right (c .fences) s)) ss
 
 -- After j slots no count is above j.
 pub record Within (j : ℕ) (c : Scan) : Type 0 where
-  pub entries-within : c .entries ≤ j
   pub fences-within : c .fences ≤ j
   pub reach-within : c .reach ≤ j
 
@@ -50,32 +48,39 @@ bit-small : (b : Bool) → cond b 1 0 ≤ 1
 bit-small true = omega arith
 bit-small false = omega arith
 
-pub stepped-within : (asked : Pair) (inner : Bool) (below j : ℕ) (c : Scan) (s : Slot) → Within j c → Within (j + 1) (stepped asked inner below c s)
+pub stepped-within : (asked : Pair) (j : ℕ) (c : Scan) (s : Slot) (right : Bool) → Within j c → Within (j + 1) (stepped asked c s right)
 unfolding stepped
-stepped-within asked inner below j c s h = record {
-  entries-within = omega (arith, bit-small (not (fenceKind (s .kind))));
+stepped-within asked j c s right h = record {
   fences-within = omega (arith, bit-small (fenceKind (s .kind)));
   reach-within = omega (arith, bit-small (not (before asked (s .pair))));
 }
 
 pub started-within : Within 0 started
 unfolding started
-started-within = record { entries-within = omega arith; fences-within = omega arith; reach-within = omega arith }
+started-within = record { fences-within = omega arith; reach-within = omega arith }
 
 -- A pass over the slots from slot j on, of the n slots from a place on: where it begins, its next slot, its end.
-unfoldable pub scannedFrom : Pair → Bool → ℕ → List ℕ → ℕ → ℕ → ℕ → Scan → Scan
-scannedFrom asked inner below w place n j c = scanned asked inner below c (span (λ i. slotAt w (place + 3 * i)) j (n - j))
+unfoldable pub scannedFrom : Pair → (ℕ → Slot → Bool) → List ℕ → ℕ → ℕ → ℕ → Scan → Scan
+scannedFrom asked right w place n j c = scanned asked right c (span (λ i. slotAt w (place + 3 * i)) j (n - j))
 
-module _ (asked : Pair) (inner : Bool) (below : ℕ) (w : List ℕ) (place n : ℕ) where
-  pub scan-begins : scannedFrom asked inner below w place n 0 started ≡ scanned asked inner below started (slotsFrom w place n)
+module _ (asked : Pair) (right : ℕ → Slot → Bool) (w : List ℕ) (place n : ℕ) where
+  pub scan-begins : scannedFrom asked right w place n 0 started ≡ scanned asked right started (slotsFrom w place n)
   unfolding scannedFrom slotsFrom
   scan-begins = rw (sub-zero n)
 
   pub scan-goes-on : (j : ℕ) (c : Scan) → j < n →
-      scannedFrom asked inner below w place n j c ≡ scannedFrom asked inner below w place n (j + 1) (stepped asked inner below c (slotAt w (place + 3 * j)))
+      scannedFrom asked right w place n j c ≡
+      scannedFrom asked right w place n (j + 1) (stepped asked c (slotAt w (place + 3 * j)) (right (c .fences) (slotAt w (place + 3 * j))))
   unfolding scannedFrom scanned
   scan-goes-on j c h = rw (span-next (λ i. slotAt w (place + 3 * i)) j n h)
 
-  pub scan-ends : (j : ℕ) (c : Scan) → n ≤ j → scannedFrom asked inner below w place n j c ≡ c
+  pub scan-ends : (j : ℕ) (c : Scan) → n ≤ j → scannedFrom asked right w place n j c ≡ c
   unfolding scannedFrom scanned
   scan-ends j c h = rw (span-end (λ i. slotAt w (place + 3 * i)) j n h)
+
+  -- A slot more, as the code reads, tests and adds it.
+  pub scan-step-told : (j : ℕ) (c : Scan) → j < n → Within j c → {whole : Scan} → scannedFrom asked right w place n j c ≡ whole →
+      {s : Slot} → s ≡ slotAt w (place + 3 * j) → {b : Bool} → b ≡ right (c .fences) s → {d : Scan} → d ≡ stepped asked c s b →
+      Within (j + 1) d × (scannedFrom asked right w place n (j + 1) d ≡ whole)
+  scan-step-told j c h within so-far {s} read {b} tested added =
+      (rw added (stepped-within asked j c s b within), rw (added, tested, read) (sym (scan-goes-on j c h) ∙ so-far))

@@ -1,13 +1,16 @@
--- Legal tags by a bound: how many pages a slot may name, and whether it is an internal fence. Assumes nothing.
-use Prim.Native.Nat.{ℕ, zero, suc}
+-- Right tags by one comparison: how many pages a slot of a page may name, and which page a slot of the head names. Assumes nothing.
+use Prim.Native.Nat.{ℕ, zero, suc, _<_}
 use native.Mathlib.Omega.{arith}
-use mathlib.Core.Path.{_≡_, refl}
-use mathlib.Core.Bool.{Bool, true, false, not, _&&_, _||_}
+use mathlib.Core.Path.{_≡_, refl, sym}
+use mathlib.Core.Bool.{Bool, true, false, not, _&&_, false≢true}
 use lib.Dec.{ltb, eqb}
-use borrow.Author.Tests.{le-ltb, ne-eqb}
+use borrow.Author.Tests.{lt-ltb, le-ltb, ne-eqb, eqb-true}
+use Rattle.laws.specs.Tests.{and-true, and-false}
 use Rattle.slot.specs.declared.Kind.{Kind}
 use Rattle.slot.specs.declared.Kind.the-variants.{Normal, Filter, External, Internal}
-use Rattle.rules.specs.Sound.{legalKind}
+use Rattle.slot.specs.declared.Slot.{Slot}
+use Rattle.rules.specs.Level.{fenceKind}
+use Rattle.rules.specs.Sound.{legal, legalKind}
 
 abbrev pub pagesNamed : ℕ → Kind → ℕ
 pagesNamed below Normal = 1
@@ -15,31 +18,58 @@ pagesNamed below Filter = 1
 pagesNamed below External = below
 pagesNamed below Internal = below
 
+abbrev pub pageDue : ℕ → Kind → ℕ
+pageDue fences Normal = 0
+pageDue fences Filter = 0
+pageDue fences External = fences
+pageDue fences Internal = fences
+
 abbrev pub internalKind : Kind → Bool
 internalKind Normal = false
 internalKind Filter = false
 internalKind External = false
 internalKind Internal = true
 
-none-but-zero : (page : ℕ) (inner : Bool) → (ltb page 1 && (inner || true)) ≡ eqb page 0
-none-but-zero zero true = refl
-none-but-zero zero false = refl
-none-but-zero (suc page) inner = rw (le-ltb (suc page) 1 (omega arith), ne-eqb (suc page) 0 (λ z. absurd (omega arith)))
+-- What is tested of a slot behind so many fences: in a page, that its tag is legal; in the head, that the fences name pages 0, 1, … in turn.
+unfoldable pub legalBelow : ℕ → ℕ → Slot → Bool
+legalBelow below fences s = legal true below s
 
-any-below : (b inner : Bool) → (b && (inner || true)) ≡ b
-any-below true true = refl
-any-below true false = refl
-any-below false inner = refl
+unfoldable pub inTurn : ℕ → Slot → Bool
+inTurn fences s = eqb (s .page .0) (pageDue fences (s .kind)) && not (internalKind (s .kind))
 
-inner-below : (b inner : Bool) → (b && (inner || false)) ≡ (inner && b)
-inner-below true true = refl
-inner-below true false = refl
-inner-below false true = refl
-inner-below false false = refl
+none-but-zero : (page : ℕ) → ltb page 1 ≡ eqb page 0
+none-but-zero zero = refl
+none-but-zero (suc page) = rw (le-ltb (suc page) 1 (omega arith), ne-eqb (suc page) 0 (λ z. absurd (omega arith)))
 
-pub legal-by-bound : (inner : Bool) (below : ℕ) (kind : Kind) (page : ℕ) →
-    (ltb page (pagesNamed below kind) && (inner || not (internalKind kind))) ≡ legalKind inner below kind page
-legal-by-bound inner below Normal page = none-but-zero page inner
-legal-by-bound inner below Filter page = none-but-zero page inner
-legal-by-bound inner below External page = any-below (ltb page below) inner
-legal-by-bound inner below Internal page = inner-below (ltb page below) inner
+pub legal-by-bound : (below : ℕ) (kind : Kind) (page : ℕ) → ltb page (pagesNamed below kind) ≡ legalKind true below kind page
+legal-by-bound below Normal page = none-but-zero page
+legal-by-bound below Filter page = none-but-zero page
+legal-by-bound below External page = refl
+legal-by-bound below Internal page = refl
+
+-- Among the fences of n pages, a slot in turn has a legal tag, and a fence is in turn exactly if it names the next page.
+module _ (fences n : ℕ) (s : Slot) where
+  pub entry-in-turn : fenceKind (s .kind) ≡ false → inTurn fences s ≡ legal false n s
+  unfolding inTurn legal
+  entry-in-turn e = by-kind (s .kind) e
+    where
+      by-kind : (k : Kind) → fenceKind k ≡ false → (eqb (s .page .0) (pageDue fences k) && not (internalKind k)) ≡ legalKind false n k (s .page .0)
+      by-kind Normal e = and-true (eqb (s .page .0) 0)
+      by-kind Filter e = and-true (eqb (s .page .0) 0)
+      by-kind External e = absurd (false≢true (sym e))
+      by-kind Internal e = absurd (false≢true (sym e))
+
+  pub fence-in-turn : fenceKind (s .kind) ≡ true → fences < n → inTurn fences s ≡ (legal false n s && eqb (s .page .0) fences)
+  unfolding inTurn legal
+  fence-in-turn e h = by-kind (s .kind) e
+    where
+      due : (b : Bool) → eqb (s .page .0) fences ≡ b → (b && true) ≡ (ltb (s .page .0) n && b)
+      due true f = rw (lt-ltb (s .page .0) n (omega (arith, eqb-true (s .page .0) fences f)))
+      due false f = sym (and-false (ltb (s .page .0) n))
+
+      by-kind : (k : Kind) → fenceKind k ≡ true →
+          (eqb (s .page .0) (pageDue fences k) && not (internalKind k)) ≡ (legalKind false n k (s .page .0) && eqb (s .page .0) fences)
+      by-kind Normal e = absurd (false≢true e)
+      by-kind Filter e = absurd (false≢true e)
+      by-kind External e = due (eqb (s .page .0) fences) refl
+      by-kind Internal e = and-false (eqb (s .page .0) fences)

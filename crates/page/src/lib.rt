@@ -8,7 +8,7 @@ ghost use Rattle.rules.specs.Level.{fenceKind};
 ghost use Rattle.rules.specs.Finding.{normalKind};
 ghost use Rattle.rules.specs.Sound.{legal, slotsFrom};
 ghost use Rattle.page.specs.Scan.{started, stepped, scanned, mayFollow};
-ghost use Rattle.page.specs.Tag.{pagesNamed, internalKind};
+ghost use Rattle.page.specs.Tag.{legalBelow, inTurn, pagesNamed, pageDue, internalKind};
 ghost use Rattle.page.specs.Tell.{fenceBack, metIn};
 use laws::both;
 use laws::either;
@@ -16,23 +16,20 @@ use laws::one_if;
 use slot::Kind;
 use slot::Pair;
 use slot::Pid;
-use slot::Rid;
 use slot::Slot;
 use slot::comes_before;
+use slot::rank_of;
 use slot::read_slot;
 use slot::same_pair;
 
 // What a pass over slots has found so far, asked for a pair.
 pub struct Scan {
-    // The last slot's pair, and whether it was a fence.
-    pub last: Pair,
+    // The last slot's rank, and whether it was a fence.
+    pub last: u64,
     pub last_fence: bool,
-    // Slot order and legal tags.
+    // Slot order and right tags.
     pub formed: bool,
-    pub entries: u32,
     pub fences: u32,
-    // The fences name pages 0, 1, … in turn.
-    pub in_turn: bool,
     // The slots whose pair is at most the pair asked.
     pub reach: u32,
 }
@@ -43,22 +40,32 @@ pub enum Met {
     Entry(bool),
 }
 
-// A pass over count slots from a place on. Fences may name the pages below that number, internal ones only where inner.
-pub fn scan_run(
-    words: &[u32],
-    place: usize,
-    count: usize,
-    asked: Pair,
-    inner: bool,
-    below: u32,
-) -> Scan
+// A pass over a page's slots, count of them from a place on, whose fences may name the pages below that number.
+pub fn scan_page(words: &[u32], place: usize, count: usize, asked: Pair, below: u32) -> Scan
     requires { ⌜ (place + 3 * count ≤ length (now words)) × (count ≤ 4096) ⌝ }
-    ensures { λ r. ⌜ r ≡ scanned asked inner below started (slotsFrom (now (words .entry)) place count) ⌝ }
+    ensures { λ r. ⌜ r ≡ scanned asked (legalBelow below) started (slotsFrom (now (words .entry)) place count) ⌝ }
 {
     let mut scan = scan_start();
     let mut j = 0;
     while j < count {
-        scan = scan_step(scan, read_slot(words, place + 3 * j), asked, inner, below);
+        let slot = read_slot(words, place + 3 * j);
+        scan = scan_step(scan, slot, asked, is_legal(slot, below));
+        j += 1;
+    }
+    scan
+}
+
+// A pass over the head's slots, count of them from a place on, whose fences name pages 0, 1, … in turn.
+pub fn scan_head(words: &[u32], place: usize, count: usize, asked: Pair) -> Scan
+    requires { ⌜ (place + 3 * count ≤ length (now words)) × (count ≤ 4096) ⌝ }
+    ensures exact { λ r. ⌜ r ≡ scanned asked inTurn started (slotsFrom (now (words .entry)) place count) ⌝ }
+    ensures few { λ r. ⌜ r .fences ≤ count ⌝ }
+{
+    let mut scan = scan_start();
+    let mut j = 0;
+    while j < count {
+        let slot = read_slot(words, place + 3 * j);
+        scan = scan_step(scan, slot, asked, is_in_turn(slot, scan.fences));
         j += 1;
     }
     scan
@@ -69,61 +76,47 @@ fn scan_start() -> Scan
     ensures { λ r. ⌜ r ≡ started ⌝ }
 {
     Scan {
-        last: slot::least_pair(),
+        last: 0,
         last_fence: true,
         formed: true,
-        entries: 0,
         fences: 0,
-        in_turn: true,
         reach: 0,
     }
 }
 
-// One slot more.
-fn scan_step(scan: Scan, slot: Slot, asked: Pair, inner: bool, below: u32) -> Scan
-    requires { ⌜ (scan .entries ≤ 4096) × (scan .fences ≤ 4096) × (scan .reach ≤ 4096) ⌝ }
-    ensures { λ r. ⌜ r ≡ stepped asked inner below scan slot ⌝ }
+// One slot more, whose tag is right or not.
+fn scan_step(scan: Scan, slot: Slot, asked: Pair, right: bool) -> Scan
+    requires { ⌜ (scan .fences ≤ 4096) × (scan .reach ≤ 4096) ⌝ }
+    ensures { λ r. ⌜ r ≡ stepped asked scan slot right ⌝ }
 {
     let pair = slot.pair;
     let kind = slot.kind;
-    let page = slot.page;
-    let last = scan.last;
+    let rank = rank_of(pair);
     let fence = is_fence(kind);
-    let fits = both(
-        may_follow(last, scan.last_fence, pair),
-        is_legal(slot, inner, below),
-    );
+    let fits = both(may_follow(scan.last, scan.last_fence, rank), right);
     Scan {
-        last: pair,
+        last: rank,
         last_fence: fence,
         formed: both(scan.formed, fits),
-        entries: scan.entries + one_if(!fence),
         fences: scan.fences + one_if(fence),
-        in_turn: both(scan.in_turn, either(!fence, page.0 == scan.fences)),
         reach: scan.reach + one_if(!comes_before(asked, pair)),
     }
 }
 
-// Whether a pair may follow the last one: pairs never fall, and only a fence is followed by its own pair.
-fn may_follow(last: Pair, last_fence: bool, pair: Pair) -> bool
-    ensures { λ r. ⌜ r ≡ mayFollow last «last_fence» pair ⌝ }
+// Whether a rank may follow the last one: pairs never fall, and only a fence is followed by its own pair.
+fn may_follow(last: u64, last_fence: bool, rank: u64) -> bool
+    ensures { λ r. ⌜ r ≡ mayFollow last «last_fence» rank ⌝ }
 {
-    either(
-        comes_before(last, pair),
-        both(same_pair(last, pair), last_fence),
-    )
+    either(last < rank, both(last == rank, last_fence))
 }
 
-// Whether a slot's tag is legal: an index entry has page number 0, a fence names a page that is there.
-pub fn is_legal(slot: Slot, inner: bool, below: u32) -> bool
-    ensures { λ r. ⌜ r ≡ legal inner below slot ⌝ }
+// Whether a slot's tag is legal in a page: an index entry has page number 0, a fence names a page that is there.
+fn is_legal(slot: Slot, below: u32) -> bool
+    ensures { λ r. ⌜ r ≡ legal true below slot ⌝ }
 {
     let kind = slot.kind;
     let page = slot.page;
-    both(
-        page.0 < pages_named(kind, below),
-        either(inner, !is_internal(kind)),
-    )
+    page.0 < pages_named(kind, below)
 }
 
 // How many pages a slot of this kind may name: those below, or page 0 alone.
@@ -135,6 +128,27 @@ fn pages_named(kind: Kind, below: u32) -> u32
         Kind::Filter => 1,
         Kind::External => below,
         Kind::Internal => below,
+    }
+}
+
+// Whether a slot's tag is right in the head: an index entry has page number 0, a fence is external and names the next page.
+fn is_in_turn(slot: Slot, fences: u32) -> bool
+    ensures { λ r. ⌜ r ≡ inTurn fences slot ⌝ }
+{
+    let kind = slot.kind;
+    let page = slot.page;
+    both(page.0 == page_due(kind, fences), !is_internal(kind))
+}
+
+// The page that a slot of this kind names in the head, behind so many fences.
+fn page_due(kind: Kind, fences: u32) -> u32
+    ensures { λ r. ⌜ r ≡ pageDue fences kind ⌝ }
+{
+    match kind {
+        Kind::Normal => 0,
+        Kind::Filter => 0,
+        Kind::External => fences,
+        Kind::Internal => fences,
     }
 }
 

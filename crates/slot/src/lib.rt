@@ -61,7 +61,7 @@ pub fn same_pair(a: Pair, b: Pair) -> bool
 }
 
 // A pair's place in the order of pairs: by badge, then floor.
-fn rank_of(pair: Pair) -> u64
+pub fn rank_of(pair: Pair) -> u64
     ensures { λ r. ⌜ r ≡ rank pair ⌝ }
 {
     let floor = pair.floor;

@@ -1,15 +1,15 @@
 -- What the clauses of src/lib.rt cite of a pass over the head and over a page, and that its mark `formed` is what the paper tests there.
 -- Assumes nothing.
-use Prim.Native.Nat.{ℕ, zero, suc, _+_, _*_, _≤_, _<_, min}
+use Prim.Native.Nat.{ℕ, zero, suc, _+_, _-_, _<_, min}
 use native.Mathlib.Numerals.{add-one}
 use native.Mathlib.Omega.{arith}
 use mathlib.Core.Path.{_≡_, refl, sym, ap, _∙_}
 use mathlib.Core.Bool.{Bool, true, false, not, _&&_, _||_}
-use mathlib.Core.List.{List, [], _∷_}
+use mathlib.Core.List.{List}
 use lib.ListN.{length, getD}
 use lib.Dec.{ltb, leb, eqb}
 use borrow.Author.Tests.{lt-ltb, le-leb}
-use Rattle.laws.specs.Tests.{and-assoc, and-true, and-false}
+use Rattle.laws.specs.Tests.{and-assoc}
 use Rattle.laws.specs.Lists.{span, passing, all, equal}
 use Rattle.geometry.specs.declared.Geometry.{Geometry}
 use Rattle.geometry.specs.Geometry.{bottom}
@@ -19,10 +19,14 @@ use Rattle.slot.specs.declared.Slot.{Slot}
 use Rattle.slot.specs.Pair.{least, before, same}
 use Rattle.slot.specs.Slot.{slotAt}
 use Rattle.rules.specs.Level.{fenceKind}
-use Rattle.rules.specs.Sound.{pagesOf, slotsFrom, headSlots, countAt, pageSlots, entriesOf, inOrder, legal, fencePages, firstIsLeast, headRight, countRight, pageFormed, firstRight, pageRight}
+use Rattle.rules.specs.Sound.{pagesOf, slotsFrom, headSlots, countAt, pageSlots, entriesOf, inOrder, legal, fencePages, firstIsLeast, headRight, countRight, pageFormed}
 use Rattle.page.specs.declared.Scan.{Scan}
 use Rattle.page.specs.Scan.{started, scanned}
-use Rattle.page.specs.Form.{scan-formed, scan-entries, scan-in-turn, scan-reach}
+use Rattle.page.specs.Tag.{legalBelow, inTurn}
+use Rattle.page.specs.Form.{scan-reach, scan-fences, slots-counted, page-tested, head-tested}
+use Rattle.page.specs.Told.{length-run}
+use Rattle.walk.specs.declared.PageRead.{PageRead}
+use Rattle.walk.specs.declared.HeadRead.{HeadRead}
 
 -- A count of 1..21, or 0 in a bottom of one page.
 unfoldable pub countFits : Geometry → List ℕ → ℕ → ℕ → Bool
@@ -35,80 +39,99 @@ leastFence s = fenceKind (s .kind) && same least (s .pair)
 unfoldable pub fenceUpTo : Pair → Slot → Bool
 fenceUpTo asked s = fenceKind (s .kind) && not (before asked (s .pair))
 
--- A pass with another mark.
-unfoldable pub marked : Bool → Scan → Scan
-marked b c = record { last = c .last; «last_fence» = c .«last_fence»; formed = b; entries = c .entries; fences = c .fences; «in_turn» = c .«in_turn»; reach = c .reach }
+-- What a pass over a page and one over the head come to.
+unfoldable pub pageScanned : Geometry → List ℕ → Pair → ℕ → ℕ → PageRead
+pageScanned g w asked i p = record { formed = pageFormed g w i p; reach = length (passing (λ s. not (before asked (s .pair))) (pageSlots g w i p)) }
 
-unfoldable pub pageScanned : Geometry → List ℕ → Pair → ℕ → ℕ → Scan
-pageScanned g w asked i p =
-    let c = scanned asked true (pagesOf g w (i + 1)) started (pageSlots g w i p) in
-    marked (countFits g w i (countAt g w i p) && c .formed) c
+unfoldable pub headScanned : Geometry → List ℕ → Pair → HeadRead
+headScanned g w asked = record {
+  formed = headRight g w;
+  entries = length (entriesOf (headSlots g w));
+  reach = length (passing (λ s. not (before asked (s .pair))) (headSlots g w));
+}
 
-unfoldable pub headScanned : Geometry → List ℕ → Pair → Scan
-headScanned g w asked =
-    let c = scanned asked false (getD w 4 0) started (headSlots g w) in
-    let n = min (getD w 8 0) (headRoom g) in
-    marked (leb (getD w 8 0) (headRoom g) && ltb (c .entries) (g .head) &&
-    (c .«in_turn» && eqb (c .fences) (getD w 4 0) && (leb 1 n && leastFence (slotAt w 9))) && c .formed) c
+pub page-reach : (g : Geometry) (w : List ℕ) (asked : Pair) (i p : ℕ) →
+    (pageScanned g w asked i p) .reach ≡ length (passing (λ s. not (before asked (s .pair))) (pageSlots g w i p))
+unfolding pageScanned
+page-reach g w asked i p = refl
+
+pub head-reach : (g : Geometry) (w : List ℕ) (asked : Pair) →
+    (headScanned g w asked) .reach ≡ length (passing (λ s. not (before asked (s .pair))) (headSlots g w))
+unfolding headScanned
+head-reach g w asked = refl
+
+pub head-entries : (g : Geometry) (w : List ℕ) (asked : Pair) → (headScanned g w asked) .entries ≡ length (entriesOf (headSlots g w))
+unfolding headScanned
+head-entries g w asked = refl
 
 -- The level exists, so its page count is the directory's.
 pub pages-of : (g : Geometry) (w : List ℕ) (i : ℕ) → i < g .levels → pagesOf g w i ≡ getD w (3 + i) 0
 unfolding pagesOf
 pages-of g w i h = rw (lt-ltb i (g .levels) h, pagesOf)
 
--- A page's mark: its page form.
-pub page-mark : (g : Geometry) (w : List ℕ) (asked : Pair) (i p : ℕ) → i < g .levels → (pageScanned g w asked i p) .formed ≡ pageFormed g w i p
-unfolding pageScanned marked pageFormed countRight countFits
-page-mark g w asked i p h =
-    rw (scan-formed asked true (pagesOf g w (i + 1)) (pageSlots g w i p), add-one i, pages-of g w i h)
-    (sym (and-assoc (countFits g w i (countAt g w i p)) (inOrder (pageSlots g w i p)) (all (legal true (pagesOf g w (suc i))) (pageSlots g w i p))))
+-- A page's pass with the test of its count.
+module _ (g : Geometry) (w : List ℕ) (asked : Pair) (i p : ℕ) where
+  abbrev pub pagePass : Scan
+  pagePass = scanned asked (legalBelow (pagesOf g w (i + 1))) started (pageSlots g w i p)
 
-pub page-reach : (g : Geometry) (w : List ℕ) (asked : Pair) (i p : ℕ) →
-    (pageScanned g w asked i p) .reach ≡ length (passing (λ s. not (before asked (s .pair))) (pageSlots g w i p))
-unfolding pageScanned marked
-page-reach g w asked i p = scan-reach asked true (pagesOf g w (i + 1)) (pageSlots g w i p)
+  page-mark : i < g .levels → (countFits g w i (countAt g w i p) && pagePass .formed) ≡ pageFormed g w i p
+  unfolding pageFormed countRight countFits
+  page-mark h =
+      rw (page-tested asked (pagesOf g w (i + 1)) (pageSlots g w i p), add-one i, pages-of g w i h)
+      (sym (and-assoc (countFits g w i (countAt g w i p)) (inOrder (pageSlots g w i p)) (all (legal true (pagesOf g w (suc i))) (pageSlots g w i p))))
 
--- The head's mark: what put, drop and ask test of it.
+  pub page-told : i < g .levels → {c : PageRead} →
+      c ≡ record { formed = countFits g w i (countAt g w i p) && pagePass .formed; reach = pagePass .reach } →
+      (c ≡ pageScanned g w asked i p) × (c .formed ≡ pageFormed g w i p)
+  unfolding pageScanned
+  page-told h e =
+      let f = page-mark h in
+      let r = scan-reach asked (legalBelow (pagesOf g w (i + 1))) (pageSlots g w i p) in
+      (e ∙ rw (f, r), ap (λ (c : PageRead). c .formed) e ∙ f)
+
+-- The first slot of the head.
 pub first-slots : (w : List ℕ) (n : ℕ) → firstIsLeast (slotsFrom w 9 n) ≡ (leb 1 n && leastFence (slotAt w 9))
 unfolding firstIsLeast slotsFrom span leastFence
 first-slots w zero = refl
 first-slots w (suc n) = rw (le-leb 1 (suc n) (omega arith))
 
-six-tests : (x c d e f : Bool) → (x && (e && f) && (c && d)) ≡ (x && c && d && e && f)
-six-tests false c d e f = refl
-six-tests true true true e f = and-true (e && f)
-six-tests true true false e f = and-false (e && f)
-six-tests true false d e f = and-false (e && f)
+-- The head's slots, as many as it has room for.
+abbrev pub headCount : Geometry → List ℕ → ℕ
+headCount g w = min (getD w 8 0) (headRoom g)
 
-pub head-mark : (g : Geometry) (w : List ℕ) (asked : Pair) → 1 < g .levels → (headScanned g w asked) .formed ≡ headRight g w
-unfolding headScanned marked headRight headSlots
-head-mark g w asked h =
-    let n = min (getD w 8 0) (headRoom g) in
-    rw (
-      scan-formed asked false (getD w 4 0) (slotsFrom w 9 n),
-      scan-entries asked false (getD w 4 0) (slotsFrom w 9 n),
-      scan-in-turn asked false (getD w 4 0) (getD w 4 0) (slotsFrom w 9 n),
-      pages-of g w 1 h,
-      first-slots w n,
-    )
-    (six-tests (leb (getD w 8 0) (headRoom g) && ltb (length (entriesOf (slotsFrom w 9 n))) (g .head)) (inOrder (slotsFrom w 9 n))
-    (all (legal false (getD w 4 0)) (slotsFrom w 9 n)) (equal (fencePages (slotsFrom w 9 n)) (span (λ p. p) 0 (getD w 4 0)))
-    (leb 1 n && leastFence (slotAt w 9)))
+-- The head's pass with the tests of its count, its index entries, its fences and its first slot.
+module _ (g : Geometry) (w : List ℕ) (asked : Pair) where
+  abbrev pub headPass : Scan
+  headPass = scanned asked inTurn started (headSlots g w)
 
-pub head-reach : (g : Geometry) (w : List ℕ) (asked : Pair) →
-    (headScanned g w asked) .reach ≡ length (passing (λ s. not (before asked (s .pair))) (headSlots g w))
-unfolding headScanned marked
-head-reach g w asked = scan-reach asked false (getD w 4 0) (headSlots g w)
+  unfoldable pub headTested : Bool
+  headTested =
+      leb (getD w 8 0) (headRoom g) && ltb (headCount g w - headPass .fences) (g .head) && (headPass .formed && eqb (headPass .fences) (getD w 4 0)) &&
+      (leb 1 (headCount g w) && leastFence (slotAt w 9))
 
-pub head-entries : (g : Geometry) (w : List ℕ) (asked : Pair) → (headScanned g w asked) .entries ≡ length (entriesOf (headSlots g w))
-unfolding headScanned marked
-head-entries g w asked = scan-entries asked false (getD w 4 0) (headSlots g w)
+  pub head-slots-counted : headPass .fences + length (entriesOf (headSlots g w)) ≡ headCount g w
+  unfolding headSlots
+  head-slots-counted =
+      rw (scan-fences asked inTurn (slotsFrom w 9 (headCount g w))) (slots-counted (slotsFrom w 9 (headCount g w)) ∙ length-run w 9 (headCount g w))
 
--- A pass with what its mark tells.
-pub page-told : (g : Geometry) (w : List ℕ) (asked : Pair) (i p : ℕ) → i < g .levels → {c : Scan} → c ≡ pageScanned g w asked i p →
-    (c ≡ pageScanned g w asked i p) × (c .formed ≡ pageFormed g w i p)
-page-told g w asked i p h e = (e, ap (λ (s : Scan). s .formed) e ∙ page-mark g w asked i p h)
+  head-left : headCount g w - headPass .fences ≡ length (entriesOf (headSlots g w))
+  head-left = omega (arith, head-slots-counted)
 
-pub head-told : (g : Geometry) (w : List ℕ) (asked : Pair) → 1 < g .levels → {c : Scan} → c ≡ headScanned g w asked →
-    (c ≡ headScanned g w asked) × (c .formed ≡ headRight g w)
-head-told g w asked h e = (e, ap (λ (s : Scan). s .formed) e ∙ head-mark g w asked h)
+  four-tests : (x c d e : Bool) → (x && (c && (d && e))) ≡ (x && c && d && e)
+  four-tests true c d e = sym (and-assoc c d e)
+  four-tests false c d e = refl
+
+  head-mark : 1 < g .levels → headTested ≡ headRight g w
+  unfolding headTested headRight headSlots
+  head-mark h =
+      rw (head-left, head-tested asked (getD w 4 0) (slotsFrom w 9 (headCount g w)), pages-of g w 1 h, first-slots w (headCount g w))
+      (ap (λ (b : Bool). b && (leb 1 (headCount g w) && leastFence (slotAt w 9)))
+      (four-tests (leb (getD w 8 0) (headRoom g) && ltb (length (entriesOf (slotsFrom w 9 (headCount g w)))) (g .head)) (inOrder (slotsFrom w 9 (headCount g w)))
+      (all (legal false (getD w 4 0)) (slotsFrom w 9 (headCount g w))) (equal (fencePages (slotsFrom w 9 (headCount g w))) (span (λ p. p) 0 (getD w 4 0)))))
+
+  pub head-told : 1 < g .levels → {c : HeadRead} →
+      c ≡ record { formed = headTested; entries = headCount g w - headPass .fences; reach = headPass .reach } →
+      (c ≡ headScanned g w asked) × (c .formed ≡ headRight g w)
+  unfolding headScanned
+  head-told h e =
+      (e ∙ rw (head-mark h, head-left, scan-reach asked inTurn (headSlots g w)), ap (λ (c : HeadRead). c .formed) e ∙ head-mark h)

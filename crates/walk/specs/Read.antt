@@ -2,11 +2,10 @@
 -- the pair, so that the slot that a pass reached tells what the whole run does. Assumes nothing.
 use Prim.Native.Nat.{ℕ, zero, suc, _+_, _-_, _*_, _≤_, _<_, min}
 use native.Mathlib.Nat.{min-le-right, le-trans}
-use native.Mathlib.Numerals.{add-one}
 use native.Mathlib.Omega.{arith}
 use mathlib.Core.Path.{_≡_, refl, sym, ap, _∙_}
-use mathlib.Core.Bool.{Bool, true, false, not, _&&_, _||_, cond}
-use mathlib.Core.List.{List, [], _∷_}
+use mathlib.Core.Bool.{Bool, true, false, not, _&&_, _||_}
+use mathlib.Core.List.{List}
 use lib.ListN.{length, getD}
 use lib.Dec.{ltb, leb, eqb}
 use borrow.Author.Tests.{leb-true, le-ltb, eq-eqb, ne-eqb, eqb-true, not-true}
@@ -14,7 +13,7 @@ use Rattle.laws.specs.Tests.{and-left, and-right, and-three, and-six}
 use Rattle.laws.specs.Lists.{span, passing, all, equal, passing-yes, passing-small}
 use Rattle.geometry.specs.declared.Geometry.{Geometry}
 use Rattle.geometry.specs.Geometry.{bottom}
-use Rattle.geometry.specs.Places.{headRoom, pagePlace, slotPlace}
+use Rattle.geometry.specs.Places.{headRoom, pagePlace}
 use Rattle.geometry.specs.Apart.{first-slot}
 use Rattle.slot.specs.declared.Pair.{Pair}
 use Rattle.slot.specs.declared.Slot.{Slot}
@@ -24,10 +23,9 @@ use Rattle.page.specs.Told.{length-run}
 use Rattle.rules.specs.Level.{fenceKind}
 use Rattle.rules.specs.Finding.{tell}
 use Rattle.rules.specs.Sound.{pagesOf, slotsFrom, headSlots, countAt, pageSlots, entriesOf, inOrder, legal, fencePages, firstIsLeast, headRight, countRight, pageFormed, firstRight, pageRight}
-use Rattle.walk.specs.declared.Step.{Step}
-use Rattle.walk.specs.declared.Step.the-variants.{Decided, Follow, Nothing, Broken}
-use Rattle.walk.specs.Passes.{fenceUpTo, leastFence, pageScanned, headScanned, first-slots, head-mark, head-reach, page-mark, page-reach, pages-of}
-use Rattle.walk.specs.Step.{stepOf, headStep, pageStep, StepWithin, aboveStep, bottomStep, above-tells, above-within, bottom-tells}
+use Rattle.walk.specs.declared.Step.the-variants.{Broken}
+use Rattle.walk.specs.Passes.{fenceUpTo, leastFence, pageScanned, headScanned, first-slots, headCount, head-reach, page-reach}
+use Rattle.walk.specs.Step.{headStep, pageStep, StepWithin, aboveStep, bottomStep, above-tells, above-within, bottom-tells}
 
 -- Where the first slot is at most the pair, a pass reaches it.
 reach-some : (w : List ℕ) (place n : ℕ) (asked : Pair) → 1 ≤ n → before asked ((slotAt w (place + 3 * 0)) .pair) ≡ false →
@@ -62,11 +60,8 @@ counted g w i p h e = some (leb 1 (countAt g w i p)) refl (and-right (leb (count
 
 -- The head.
 module _ (g : Geometry) (w : List ℕ) (asked : Pair) where
-  abbrev headCount : ℕ
-  headCount = min (getD w 8 0) (headRoom g)
-
   abbrev headRun : List Slot
-  headRun = slotsFrom w 9 headCount
+  headRun = slotsFrom w 9 (headCount g w)
 
   pub head-broken : headRight g w ≡ false → Broken ≡ headStep g w asked
   unfolding headStep
@@ -82,35 +77,35 @@ module _ (g : Geometry) (w : List ℕ) (asked : Pair) where
         (equal (fencePages headRun) (span (λ p. p) 0 (pagesOf g w 1))) (firstIsLeast headRun) right
 
     -- Its first slot is the least fence.
-    first-test : (leb 1 headCount && leastFence (slotAt w 9)) ≡ true
-    first-test = sym (first-slots w headCount) ∙ head-tests .5
+    first-test : (leb 1 (headCount g w) && leastFence (slotAt w 9)) ≡ true
+    first-test = sym (first-slots w (headCount g w)) ∙ head-tests .5
 
     pub head-first : fenceKind ((slotAt w 9) .kind) ≡ true
     unfolding leastFence
-    head-first = and-left (fenceKind ((slotAt w 9) .kind)) (same least ((slotAt w 9) .pair)) (and-right (leb 1 headCount) (leastFence (slotAt w 9)) first-test)
+    head-first = and-left (fenceKind ((slotAt w 9) .kind)) (same least ((slotAt w 9) .pair)) (and-right (leb 1 (headCount g w)) (leastFence (slotAt w 9)) first-test)
 
     pub head-some : 1 ≤ (headScanned g w asked) .reach
     unfolding leastFence headSlots
     head-some =
-        let f = and-right (fenceKind ((slotAt w 9) .kind)) (same least ((slotAt w 9) .pair)) (and-right (leb 1 headCount) (leastFence (slotAt w 9)) first-test) in
+        let f = and-right (fenceKind ((slotAt w 9) .kind)) (same least ((slotAt w 9) .pair)) (and-right (leb 1 (headCount g w)) (leastFence (slotAt w 9)) first-test) in
         rw (head-reach g w asked)
-        (reach-some w 9 headCount asked (leb-true 1 headCount (and-left (leb 1 headCount) (leastFence (slotAt w 9)) first-test)) (none-before-least asked ((slotAt w 9) .pair) f))
+        (reach-some w 9 (headCount g w) asked (leb-true 1 (headCount g w) (and-left (leb 1 (headCount g w)) (leastFence (slotAt w 9)) first-test)) (none-before-least asked ((slotAt w 9) .pair) f))
 
     pub head-reach-small : (headScanned g w asked) .reach ≤ headRoom g
     unfolding headSlots
     head-reach-small =
-        rw (head-reach g w asked) (le-trans (passing-small (λ (s : Slot). not (before asked (s .pair))) headRun) (rw (length-run w 9 headCount) (min-le-right (getD w 8 0) (headRoom g))))
+        rw (head-reach g w asked) (le-trans (passing-small (λ (s : Slot). not (before asked (s .pair))) headRun) (rw (length-run w 9 (headCount g w)) (min-le-right (getD w 8 0) (headRoom g))))
 
     pub head-tells : aboveStep w 9 ((headScanned g w asked) .reach - 1) asked ≡ headStep g w asked
     unfolding headStep headSlots
     head-tells =
         rw right
-        (above-tells w 9 headCount asked false (pagesOf g w 1) ((headScanned g w asked) .reach) (head-tests .2) (head-tests .3) (head-reach g w asked) head-first head-some)
+        (above-tells w 9 (headCount g w) asked false (pagesOf g w 1) ((headScanned g w asked) .reach) (head-tests .2) (head-tests .3) (head-reach g w asked) head-first head-some)
 
     pub head-within : StepWithin (pagesOf g w 1) (aboveStep w 9 ((headScanned g w asked) .reach - 1) asked)
     unfolding headSlots
     head-within =
-        above-within w 9 headCount asked false (pagesOf g w 1) ((headScanned g w asked) .reach) (head-tests .2) (head-tests .3) (head-reach g w asked) head-first head-some
+        above-within w 9 (headCount g w) asked false (pagesOf g w 1) ((headScanned g w asked) .reach) (head-tests .2) (head-tests .3) (head-reach g w asked) head-first head-some
 
 -- A page of a lower level.
 module _ (g : Geometry) (w : List ℕ) (asked : Pair) (i p : ℕ) where

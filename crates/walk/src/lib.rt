@@ -1,5 +1,5 @@
 // What an ask looks at: the directory, the head, and one page of each lower level.
-ghost use Prim.Native.Nat.{suc, _+_, _-_, _*_, _<_, _≤_, min};
+ghost use Prim.Native.Nat.{_+_, _-_, _*_, _<_, _≤_, min};
 ghost use mathlib.Core.Path.{_≡_};
 ghost use mathlib.Core.Bool.{true};
 ghost use lib.ListN.{length};
@@ -17,11 +17,11 @@ use geometry::Plan;
 use laws::both;
 use laws::either;
 use page::Met;
-use page::Scan;
 use page::fence_back;
 use page::is_fence;
 use page::met_at;
-use page::scan_run;
+use page::scan_head;
+use page::scan_page;
 use slot::Pair;
 use slot::Pid;
 use slot::comes_before;
@@ -35,6 +35,19 @@ pub enum Step {
     Follow(Pid),
     Nothing,
     Broken,
+}
+
+// What a pass over a page tells of it: whether it is formed, and the slots whose pair is at most the pair asked.
+pub struct PageRead {
+    pub formed: bool,
+    pub reach: u32,
+}
+
+// What a pass over the head tells of it: whether it is right, its index entries, and the slots whose pair is at most the pair asked.
+pub struct HeadRead {
+    pub formed: bool,
+    pub entries: u32,
+    pub reach: u32,
 }
 
 // What a walk comes to: held or not with the deciding level, or the level of the fault.
@@ -114,7 +127,7 @@ pub fn page_scan(
     asked: Pair,
     level: usize,
     page: u32,
-) -> Scan
+) -> PageRead
     requires { ⌜ Lent g plan (now store) ⌝ }
     requires { ⌜ (1 ≤ level) × (level < g .levels) × (page < room g level) ⌝ }
     ensures exact { λ r. ⌜ r ≡ pageScanned g (now (store .entry)) asked level page ⌝ }
@@ -124,13 +137,15 @@ pub fn page_scan(
     let count = store[place];
     let below = pages_below(store, g, level);
     let slots = lesser(count, 21) as usize;
-    let mut scan = scan_run(store, place + 1, slots, asked, true, below);
-    scan.formed = both(count_right(store, g, level, count), scan.formed);
-    scan
+    let scan = scan_page(store, place + 1, slots, asked, below);
+    PageRead {
+        formed: both(count_right(store, g, level, count), scan.formed),
+        reach: scan.reach,
+    }
 }
 
 // A pass over the head for a pair: formed tells whether the head is right.
-pub fn head_scan(store: &[u32], g: Geometry, plan: Plan, asked: Pair) -> Scan
+pub fn head_scan(store: &[u32], g: Geometry, plan: Plan, asked: Pair) -> HeadRead
     requires { ⌜ Lent g plan (now store) ⌝ }
     ensures exact { λ r. ⌜ r ≡ headScanned g (now (store .entry)) asked ⌝ }
     ensures mark { λ r. ⌜ r .formed ≡ headRight g (now (store .entry)) ⌝ }
@@ -138,15 +153,16 @@ pub fn head_scan(store: &[u32], g: Geometry, plan: Plan, asked: Pair) -> Scan
     let count = store[8];
     let head_room = plan.head_room;
     let slots = lesser(count, head_room);
-    let mut scan = scan_run(store, 9, slots as usize, asked, false, store[4]);
-    let turn = both(scan.in_turn, scan.fences == store[4]);
+    let scan = scan_head(store, 9, slots as usize, asked);
+    let entries = slots - scan.fences;
+    let few = both(count <= head_room, entries < g.head);
+    let turn = both(scan.formed, scan.fences == store[4]);
     let least = both(1 <= slots, is_least_fence(store, 9));
-    let shape = both(
-        both(count <= head_room, scan.entries < g.head),
-        both(turn, least),
-    );
-    scan.formed = both(shape, scan.formed);
-    scan
+    HeadRead {
+        formed: both(both(few, turn), least),
+        entries,
+        reach: scan.reach,
+    }
 }
 
 // Whether the slot at a place is a fence with the least pair.

@@ -2,7 +2,7 @@
 use mathlib.Core.Path.{ap, _∙_}
 use Rattle.laws.specs.Tests.{told-no, told-past}
 use Rattle.geometry.specs.Lent.{head-lent}
-use Rattle.page.specs.declared.Scan.{Scan}
+use Rattle.walk.specs.declared.HeadRead.{HeadRead}
 use Rattle.walk.specs.Read.{head-broken, head-first, head-some, head-reach-small, head-tells, head-within}
 use native.Mathlib.Omega.{arith}
 use borrow.Author.Needs.{needs}
@@ -29,7 +29,7 @@ tell-above-requires c κs =
     let right = told-past _ _ m (c .before .if1 .left) in (
       (
         rw e (head-some (a .g) (a .store .now) (a .asked) right),
-        omega (arith, ap (λ (s : Scan). s .reach) e, head-reach-small (a .g) (a .store .now) (a .asked) right, head-lent (a .g) (a .plan) (a .store .now) (c .before .before .before .before .before .pre)),
+        omega (arith, ap (λ (s : HeadRead). s .reach) e, head-reach-small (a .g) (a .store .now) (a .asked) right, head-lent (a .g) (a .plan) (a .store .now) (c .before .before .before .before .before .pre)),
       ),
       head-first (a .g) (a .store .now) (a .asked) right,
     )

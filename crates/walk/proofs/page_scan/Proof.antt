@@ -1,7 +1,7 @@
--- `page_scan` gives the pass over a page, marked with its page form. Assumes nothing.
+-- `page_scan` gives what a pass over a page tells of it, its mark by `page-told`. Assumes nothing.
 use Rattle.geometry.specs.Apart.{first-slot}
 use Rattle.rules.specs.Sound.{countAt, pageSlots}
-use Rattle.walk.specs.Passes.{pageScanned, marked, page-told}
+use Rattle.walk.specs.Passes.{page-told}
 use borrow.Author.Needs.{needs}
 use Rattle.walk.proofs.page_scan.Statement.{statement}
 use Rattle.walk.proofs.page_scan.Tie as tie
@@ -24,11 +24,11 @@ lesser-requires c κs = search needs
 cast-slots : tie.Need-cast-slots
 cast-slots c = search needs
 
-add-scan-run : tie.Need-add-scan-run
-add-scan-run c = search needs
+add-scan-page : tie.Need-add-scan-page
+add-scan-page c = search needs
 
-scan-run-requires : tie.Need-scan-run-requires
-scan-run-requires c κs = search needs
+scan-page-requires : tie.Need-scan-page-requires
+scan-page-requires c κs = search needs
 
 count-right-requires : tie.Need-count-right-requires
 count-right-requires c κs = search needs
@@ -37,10 +37,11 @@ both-requires : tie.Need-both-requires
 both-requires c κs = search needs
 
 returns : tie.Need-returns
-unfolding pageScanned marked pageSlots countAt
-returns c = let a = c .before .before .before .before .before .before .before .before .args in
+unfolding pageSlots countAt
+returns c =
+    let a = c .before .before .before .before .before .before .before .before .args in
     page-told (a .g) (a .store .now) (a .asked) (a .level) (a .page) (c .before .before .before .before .before .before .before .before .pre .1 .1)
-    (rw (c .both .ensures, c .before .count-right .ensures, c .before .before .scan-run .ensures, c .before .before .before .lesser .ensures, c .before .before .before .before .pages-below .ensures, c .before .before .before .before .before .before .page-place .ensures .0, first-slot (c .before .before .before .before .before .before .before .before .args .g) (c .before .before .before .before .before .before .before .before .args .level) (c .before .before .before .before .before .before .before .before .args .page)))
+    (rw (c .both .ensures, c .before .count-right .ensures, c .before .before .scan-page .ensures, c .before .before .before .lesser .ensures, c .before .before .before .before .pages-below .ensures, c .before .before .before .before .before .before .page-place .ensures .0, first-slot (a .g) (a .level) (a .page)))
 
 pub page-scan-spec : {M : Type 1} → statement M
 page-scan-spec =
@@ -52,8 +53,8 @@ page-scan-spec =
     pages-below-requires
     lesser-requires
     cast-slots
-    add-scan-run
-    scan-run-requires
+    add-scan-page
+    scan-page-requires
     count-right-requires
     both-requires
     returns)

@@ -4,7 +4,7 @@ use native.Mathlib.Numerals.{add-one}
 use mathlib.Core.Path.{_≡_, ap, _∙_}
 use mathlib.Core.Logic.{_≢_}
 use Rattle.laws.specs.Tests.{told-no, told-past}
-use Rattle.page.specs.declared.Scan.{Scan}
+use Rattle.walk.specs.declared.PageRead.{PageRead}
 use Rattle.walk.specs.Step.{bottom-within}
 use Rattle.walk.specs.Read.{page-broken, page-reach-small, page-bottom, page-first-broken, page-first, page-some, page-tells, page-within}
 use native.Mathlib.Omega.{arith}
@@ -42,7 +42,7 @@ tell-bottom-requires c κs =
     let e = c .before .before .before .before .before .before .page-scan .ensures .0 in
     let m = c .before .before .before .before .before .before .page-scan .ensures .1 in
     let formed = told-past _ _ m (c .before .before .before .before .if1 .left) in
-    omega (arith, ap (λ (s : Scan). s .reach) e, page-reach-small (a .g) (a .store .now) (a .asked) (a .level) (a .page) formed, c .before .before .before .page-place .ensures .1)
+    omega (arith, ap (λ (s : PageRead). s .reach) e, page-reach-small (a .g) (a .store .now) (a .asked) (a .level) (a .page) formed, c .before .before .before .page-place .ensures .1)
 
 returns-2 : tie.Need-returns-2
 returns-2 c =
@@ -82,7 +82,7 @@ tell-above-requires c κs =
     let first = told-past _ _ (rw (c .before .before .before .before .before .page-place .ensures .0) at (c .before .before .is-first-right .ensures)) (c .before .if3 .left) in (
       (
         rw e (page-some (a .g) (a .store .now) (a .asked) (a .level) (a .page) formed above first),
-        omega (arith, ap (λ (s : Scan). s .reach) e, page-reach-small (a .g) (a .store .now) (a .asked) (a .level) (a .page) formed, c .before .before .before .before .before .page-place .ensures .1),
+        omega (arith, ap (λ (s : PageRead). s .reach) e, page-reach-small (a .g) (a .store .now) (a .asked) (a .level) (a .page) formed, c .before .before .before .before .before .page-place .ensures .1),
       ),
       rw (c .before .before .before .before .before .page-place .ensures .0) (page-first (a .g) (a .store .now) (a .asked) (a .level) (a .page) formed above first),
     )
