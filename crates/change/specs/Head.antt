@@ -2,7 +2,7 @@
 -- the head leaves as it is. Assumes nothing.
 use Prim.Native.Nat.{ℕ, suc, _+_, _-_, _*_, _≤_, _<_, min}
 use native.Mathlib.Omega.{arith}
-use mathlib.Core.Path.{_≡_, refl, ap, _∙_}
+use mathlib.Core.Path.{_≡_, ap, _∙_}
 use mathlib.Core.Logic.{_≢_}
 use mathlib.Core.Bool.{Bool, true, false, not, _&&_}
 use mathlib.Core.List.{List, [], _∷_, _++_}
@@ -10,7 +10,7 @@ use lib.ListN.{length, getD, set, length-set}
 use lib.Seq.{sets, slice, length-sets, getD-set-same, getD-set-other}
 use lib.Dec.{ltb, leb}
 use borrow.Author.Tests.{leb-true, ltb-true}
-use Rattle.laws.specs.Lists.{span, passing, length-span}
+use Rattle.laws.specs.Lists.{span, length-span}
 use Rattle.laws.specs.Flat.{equal-true}
 use Rattle.laws.specs.Sets.{getD-sets-before}
 use Rattle.geometry.specs.declared.Geometry.{Geometry}
@@ -20,13 +20,13 @@ use Rattle.geometry.specs.Places.{liveWord, pagesWord, headCountWord, headStart
 use Rattle.geometry.specs.Bounds.{capacity-small}
 use Rattle.geometry.specs.Lent.{Lent, lent, head-lent, plan-words}
 use Rattle.slot.specs.declared.Pair.{Pair}
-use Rattle.slot.specs.declared.Slot.{Slot}
 use Rattle.slot.specs.Pair.{least, Words}
 use Rattle.slot.specs.Tag.{tagOf}
 use Rattle.slot.specs.Slot.{wordsOf}
+use Rattle.page.specs.Form.{slots-counted}
 use Rattle.page.specs.Told.{length-run}
 use Rattle.rules.specs.Tree.{Entry}
-use Rattle.rules.specs.Level.{index, fenceKind}
+use Rattle.rules.specs.Level.{index}
 use Rattle.rules.specs.Sound.{geometryOf, pagesOf, headSlots, entriesOf, fencePages, directoryRight, headRight}
 use Rattle.walk.specs.declared.Walked.the-variants.{Found}
 use Rattle.walk.specs.declared.HeadRead.{HeadRead}
@@ -63,17 +63,6 @@ pub record Accepted (g : Geometry) (w : List ℕ) (e : Entry) (decider : ℕ) : 
   pub room : e .normal ≡ true → getD w liveWord 0 < most g
   pub some : e .normal ≡ false → 1 ≤ getD w liveWord 0
 
--- Slots are index entries and fences.
-slots-parted : (ss : List Slot) → length ss ≡ length (entriesOf ss) + length (fencePages ss)
-unfolding entriesOf fencePages passing
-slots-parted [] = refl
-slots-parted (s ∷ ss) = chosen (fenceKind (s .kind)) refl (slots-parted ss)
-  where
-    chosen : (b : Bool) → fenceKind (s .kind) ≡ b → length ss ≡ length (entriesOf ss) + length (fencePages ss) →
-        suc (length ss) ≡ length (entriesOf (s ∷ ss)) + length (fencePages (s ∷ ss))
-    chosen true e h = rw (e, entriesOf, passing) (omega (arith, h))
-    chosen false e h = rw (e, entriesOf, passing) (omega (arith, h))
-
 -- In the head of a store that passed the walk's first tests.
 module _ (g : Geometry) (w : List ℕ) (fit : InRange g) (directory : directoryRight g w ≡ true) (right : headRight g w ≡ true) where
   -- All its slots are read.
@@ -89,7 +78,7 @@ module _ (g : Geometry) (w : List ℕ) (fit : InRange g) (directory : directoryR
       let ss = headSlots g w in
       omega (
         arith,
-        slots-parted ss,
+        slots-counted ss,
         ltb-true (length (entriesOf ss)) (g .head) (tests .1),
         ap length (equal-true (fencePages ss) (span (λ p. p) 0 (pagesOf g w 1)) (tests .4)),
         length-span (λ p. p) 0 (pagesOf g w 1),

@@ -8,6 +8,7 @@ ghost use Rattle.geometry.specs.Places.{workWords};
 ghost use Rattle.geometry.specs.Lent.{Lent};
 ghost use Rattle.rules.specs.Sound.{headSlots};
 ghost use Rattle.good.specs.Edit.{liveAfter};
+ghost use Rattle.walk.specs.Passes.{headScanned};
 ghost use Rattle.edited.specs.Reach.{reach as reachOf};
 ghost use Rattle.entries.specs.Run.{entry as indexed};
 ghost use Rattle.entries.specs.Levels.{PagesWithin};
@@ -21,6 +22,7 @@ use entries::Entry;
 use geometry::Geometry;
 use geometry::Plan;
 use sound::Whole;
+use walk::HeadRead;
 
 // What a change came to: live pairs, the deepest level merged into and the pages written, or the level of a fault, with nothing changed.
 pub enum Outcome {
@@ -35,6 +37,7 @@ pub struct Report {
 }
 
 // Puts an entry into the head, or takes out the head's own entry of its pair, where the head decided; then the head is settled.
+// What the head holds is known from the walk.
 pub fn change(
     store: &mut [u32],
     work: &mut [u32],
@@ -42,19 +45,19 @@ pub fn change(
     plan: Plan,
     entry: Entry,
     decider: u32,
+    head: HeadRead,
 ) -> Report
     requires { ⌜ Lent g plan (now store) ⌝ }
     requires { ⌜ length (now work) ≡ workWords g ⌝ }
     requires { ⌜ Accepted g (now store) (indexed entry) decider ⌝ }
+    requires { ⌜ head ≡ headScanned g (now store) (entry .pair) ⌝ }
     ensures { λ r. ⌜ told r (now (store .exit)) (now (work .exit)) ≡ changeOf g (indexed entry) (eqb decider 0) (now (store .entry)) (now (work .entry)) ⌝ }
 {
     let own = decider == 0;
-    let pair = entry.pair;
-    let scan = walk::head_scan(store, g, plan, pair);
-    if fills_head(g, scan.entries, own) {
-        return change_and_settle(store, work, g, plan, entry, scan.reach);
+    if fills_head(g, head.entries, own) {
+        return change_and_settle(store, work, g, plan, entry, head.reach);
     }
-    edit_head(store, entry, scan.reach, own);
+    edit_head(store, entry, head.reach, own);
     done(store, g, plan, 0, 0)
 }
 

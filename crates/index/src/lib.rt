@@ -11,6 +11,7 @@ ghost use Rattle.index.specs.Format.{formatReply, formatOf};
 ghost use Rattle.index.specs.Edit.{editReply, putOf, dropOf, editOf, putFound, dropFound, OpensBoth, answerFor};
 ghost use Rattle.geometry.specs.Places.{workWords};
 ghost use Rattle.geometry.specs.Lent.{Lent};
+ghost use Rattle.walk.specs.Passes.{headScanned};
 ghost use Rattle.walk.specs.Walk.{walked};
 ghost use Rattle.walk.specs.declared.Walked.the-variants.{Found};
 ghost use mathlib.Core.List.{[], _∷_};
@@ -22,6 +23,7 @@ use geometry::Plan;
 use listing::list_pairs;
 use slot::Pair;
 use sound::Whole;
+use walk::HeadRead;
 use walk::Walked;
 
 // What ask answers: held or not with the deciding level, or the reply's number in words.
@@ -164,13 +166,16 @@ fn edit(store: &mut [u32], work: &mut [u32], entry: Entry) -> Changed
     let geometry = opened.geometry;
     let plan = opened.plan;
     let pair = entry.pair;
-    match walk::walk_down(store, geometry, plan, pair) {
+    let trail = walk::walk_trail(store, geometry, plan, pair);
+    let walked = trail.walked;
+    let head = trail.head;
+    match walked {
         Walked::Fault(level) => unchanged(Edited::Fault(level)),
         Walked::Found(held, level) => {
             if entry.normal {
-                return put_found(store, work, geometry, plan, pair, held, level);
+                return put_found(store, work, geometry, plan, pair, held, level, head);
             }
-            drop_found(store, work, geometry, plan, pair, held, level)
+            drop_found(store, work, geometry, plan, pair, held, level, head)
         }
     }
 }
@@ -184,11 +189,13 @@ fn put_found(
     pair: Pair,
     held: bool,
     level: u32,
+    head: HeadRead,
 ) -> Changed
     requires { ⌜ Lent g plan (now store) ⌝ }
     requires { ⌜ length (now work) ≡ workWords g ⌝ }
     requires { ⌜ g ≡ geometryOf (now store) ⌝ }
     requires { ⌜ walked g (now store) pair ≡ Found held level ⌝ }
+    requires { ⌜ head ≡ headScanned g (now store) pair ⌝ }
     ensures { λ r. ⌜ editReply (r .answer) (r .entries) (now (store .exit)) (now (work .exit)) ≡ putFound (now (store .entry)) (now (work .entry)) pair held level ⌝ }
 {
     let bottom = (g.levels - 1) as usize;
@@ -200,7 +207,15 @@ fn put_found(
     if most <= live {
         return unchanged(Edited::Full);
     }
-    told(change::change(store, work, g, plan, Entry { pair, normal: true }, level))
+    told(change::change(
+        store,
+        work,
+        g,
+        plan,
+        Entry { pair, normal: true },
+        level,
+        head,
+    ))
 }
 
 // Drop of a pair that was found held or not, decided by a level.
@@ -212,11 +227,13 @@ fn drop_found(
     pair: Pair,
     held: bool,
     level: u32,
+    head: HeadRead,
 ) -> Changed
     requires { ⌜ Lent g plan (now store) ⌝ }
     requires { ⌜ length (now work) ≡ workWords g ⌝ }
     requires { ⌜ g ≡ geometryOf (now store) ⌝ }
     requires { ⌜ walked g (now store) pair ≡ Found held level ⌝ }
+    requires { ⌜ head ≡ headScanned g (now store) pair ⌝ }
     ensures { λ r. ⌜ editReply (r .answer) (r .entries) (now (store .exit)) (now (work .exit)) ≡ dropFound (now (store .entry)) (now (work .entry)) pair held level ⌝ }
 {
     if !held {
@@ -235,6 +252,7 @@ fn drop_found(
             normal: false,
         },
         level,
+        head,
     ))
 }
 

@@ -55,6 +55,10 @@ pub page-reach : (g : Geometry) (w : List ℕ) (asked : Pair) (i p : ℕ) →
 unfolding pageScanned
 page-reach g w asked i p = refl
 
+pub head-formed : (g : Geometry) (w : List ℕ) (asked : Pair) → {c : HeadRead} → c ≡ headScanned g w asked → c .formed ≡ headRight g w
+unfolding headScanned
+head-formed g w asked e = ap (λ (c : HeadRead). c .formed) e
+
 pub head-reach : (g : Geometry) (w : List ℕ) (asked : Pair) →
     (headScanned g w asked) .reach ≡ length (passing (λ s. not (before asked (s .pair))) (headSlots g w))
 unfolding headScanned
@@ -134,4 +138,5 @@ module _ (g : Geometry) (w : List ℕ) (asked : Pair) where
       (c ≡ headScanned g w asked) × (c .formed ≡ headRight g w)
   unfolding headScanned
   head-told h e =
-      (e ∙ rw (head-mark h, head-left, scan-reach asked inTurn (headSlots g w)), ap (λ (c : HeadRead). c .formed) e ∙ head-mark h)
+      let f : _ ≡ headScanned g w asked = e ∙ rw (head-mark h, head-left, scan-reach asked inTurn (headSlots g w)) in
+      (f, head-formed g w asked f)

@@ -2,7 +2,7 @@
 ghost use Prim.Native.Nat.{_+_, _-_, _*_, _<_, _≤_, min};
 ghost use mathlib.Core.Path.{_≡_};
 ghost use mathlib.Core.Bool.{true};
-ghost use lib.ListN.{length};
+ghost use lib.ListN.{length, getD};
 ghost use Rattle.geometry.specs.Geometry.{room};
 ghost use Rattle.geometry.specs.Places.{pagePlace};
 ghost use Rattle.rules.specs.Level.{fenceKind};
@@ -56,6 +56,12 @@ pub enum Walked {
     Fault(u32),
 }
 
+// What a walk comes to, and what its pass over the head told.
+pub struct Trail {
+    pub walked: Walked,
+    pub head: HeadRead,
+}
+
 // The page count that the directory gives the level below, none below the bottom.
 pub fn pages_below(store: &[u32], g: Geometry, level: usize) -> u32
     requires { ⌜ (9 ≤ length (now store)) × (level ≤ 3) ⌝ }
@@ -91,7 +97,8 @@ pub fn directory_right(store: &[u32], g: Geometry, plan: Plan) -> bool
     ensures { λ r. ⌜ r ≡ directoryRight g (now (store .entry)) ⌝ }
 {
     let bottom = (g.levels - 1) as usize;
-    let most = plan.capacities[bottom];
+    let capacities = plan.capacities;
+    let most = of_level(capacities, bottom);
     let first = pages_right(store, g, plan, 1);
     let second = pages_right(store, g, plan, 2);
     let third = pages_right(store, g, plan, 3);
@@ -109,6 +116,20 @@ fn count_right(store: &[u32], g: Geometry, level: usize, count: u32) -> bool
     both(count <= 21, either(1 <= count, alone))
 }
 
+// Of four numbers, one for each level, that of a lower level. Its places are constant, so that the four need not be copied.
+fn of_level(four: [u32; 4], level: usize) -> u32
+    requires { ⌜ (1 ≤ level) × (level ≤ 3) ⌝ }
+    ensures { λ r. ⌜ r ≡ getD four level 0 ⌝ }
+{
+    if level == 1 {
+        return four[1];
+    }
+    if level == 2 {
+        return four[2];
+    }
+    four[3]
+}
+
 // The first word of a page of a lower level.
 pub fn page_place(store: &[u32], g: Geometry, plan: Plan, level: usize, page: u32) -> usize
     requires { ⌜ Lent g plan (now store) ⌝ }
@@ -116,7 +137,9 @@ pub fn page_place(store: &[u32], g: Geometry, plan: Plan, level: usize, page: u3
     ensures exact { λ r. ⌜ r ≡ pagePlace g level page ⌝ }
     ensures inside { λ r. ⌜ r + 64 ≤ length (now (store .entry)) ⌝ }
 {
-    plan.starts[level] as usize + 64 * (page as usize)
+    let starts = plan.starts;
+    let start = of_level(starts, level);
+    start as usize + 64 * (page as usize)
 }
 
 // A pass over a page of a lower level for a pair: formed tells whether its count, slot order and tags are right.
@@ -222,17 +245,17 @@ fn tell_bottom(store: &[u32], place: usize, reach: usize, asked: Pair) -> Step
     }
 }
 
-// What the head tells of a pair.
-pub fn head_step(store: &[u32], g: Geometry, plan: Plan, asked: Pair) -> Step
+// What the head tells of a pair, after the pass over it.
+fn head_step(store: &[u32], g: Geometry, plan: Plan, asked: Pair, head: HeadRead) -> Step
     requires { ⌜ Lent g plan (now store) ⌝ }
+    requires { ⌜ head ≡ headScanned g (now store) asked ⌝ }
     ensures exact { λ r. ⌜ r ≡ headStep g (now (store .entry)) asked ⌝ }
     ensures within { λ r. ⌜ StepWithin (pagesOf g (now (store .entry)) 1) r ⌝ }
 {
-    let scan = head_scan(store, g, plan, asked);
-    if !scan.formed {
+    if !head.formed {
         return Step::Broken;
     }
-    tell_above(store, 9, scan.reach as usize, asked)
+    tell_above(store, 9, head.reach as usize, asked)
 }
 
 // What a page of a lower level tells of a pair.
@@ -269,10 +292,33 @@ pub fn walk_down(store: &[u32], g: Geometry, plan: Plan, asked: Pair) -> Walked
     requires { ⌜ Lent g plan (now store) ⌝ }
     ensures { λ r. ⌜ r ≡ walked g (now (store .entry)) asked ⌝ }
 {
+    let trail = walk_trail(store, g, plan, asked);
+    trail.walked
+}
+
+// The same walk, with what its pass over the head told.
+pub fn walk_trail(store: &[u32], g: Geometry, plan: Plan, asked: Pair) -> Trail
+    requires { ⌜ Lent g plan (now store) ⌝ }
+    ensures walks { λ r. ⌜ r .walked ≡ walked g (now (store .entry)) asked ⌝ }
+    ensures reads { λ r. ⌜ r .head ≡ headScanned g (now (store .entry)) asked ⌝ }
+{
+    let head = head_scan(store, g, plan, asked);
+    Trail {
+        walked: walk_past(store, g, plan, asked, head),
+        head,
+    }
+}
+
+// The walk after the pass over the head.
+fn walk_past(store: &[u32], g: Geometry, plan: Plan, asked: Pair, head: HeadRead) -> Walked
+    requires { ⌜ Lent g plan (now store) ⌝ }
+    requires { ⌜ head ≡ headScanned g (now store) asked ⌝ }
+    ensures { λ r. ⌜ r ≡ walked g (now (store .entry)) asked ⌝ }
+{
     if !directory_right(store, g, plan) {
         return Walked::Fault(0);
     }
-    match head_step(store, g, plan, asked) {
+    match head_step(store, g, plan, asked, head) {
         Step::Decided(held) => Walked::Found(held, 0),
         Step::Follow(page) => walk_levels(store, g, plan, asked, page),
         Step::Nothing => Walked::Found(false, g.levels),

@@ -10,29 +10,26 @@ use borrow.Author.Needs.{needs}
 use Rattle.change.proofs.change.Statement.{statement}
 use Rattle.change.proofs.change.Tie as tie
 
--- What the pass over the head found, and whether the head is filled then.
-scanned : (c : tie.After-head-scan) → Scanned (c .before .before .before .before .before .args .g) (now (c .before .before .before .before .before .args .store)) (indexed (c .before .before .before .before .before .args .entry)) (c .head-scan .result)
+-- What the walk's pass over the head told, and whether the head is filled then.
+scanned : (c : tie.After-slice-known2) → Scanned (c .before .before .args .g) (now (c .before .before .args .store)) (indexed (c .before .before .args .entry)) (c .before .before .args .head)
 scanned c =
-    let a = c .before .before .before .before .before .args in
-    let pre = c .before .before .before .before .before .pre in
-    accepted-scanned (a .g) (a .plan) (now (a .store)) (indexed (a .entry)) (a .decider) (pre .0) (pre .1 .1) (c .head-scan .result) (c .head-scan .ensures .0)
+    let a = c .before .before .args in
+    let pre = c .before .before .pre in
+    accepted-scanned (a .g) (a .plan) (now (a .store)) (indexed (a .entry)) (a .decider) (pre .0) (pre .1 .1 .0) (a .head) (pre .1 .1 .1)
 
-fills : (c : tie.After-fills-head) → c .fills-head .result ≡ fillsHead (c .before .before .before .before .before .before .args .g) (now (c .before .before .before .before .before .before .args .store)) (eqb (c .before .before .before .before .before .before .args .decider) 0)
+fills : (c : tie.After-fills-head) → c .fills-head .result ≡ fillsHead (c .before .before .before .args .g) (now (c .before .before .before .args .store)) (eqb (c .before .before .before .args .decider) 0)
 fills c =
-    let a = c .before .before .before .before .before .before .args in
-    fills-told (a .g) (now (a .store)) (eqb (a .decider) 0) (c .before .head-scan .result .entries) (scanned (c .before) .counted) _ (c .fills-head .ensures)
-
-head-scan-requires : tie.Need-head-scan-requires
-head-scan-requires c κs = search needs
+    let a = c .before .before .before .args in
+    fills-told (a .g) (now (a .store)) (eqb (a .decider) 0) (a .head .entries) (scanned (c .before) .counted) _ (c .fills-head .ensures)
 
 fills-head-requires : tie.Need-fills-head-requires
 fills-head-requires c κs = scanned c .few
 
 change-and-settle-requires : tie.Need-change-and-settle-requires
 change-and-settle-requires c κs =
-    let a = c .before .before .before .before .before .before .before .before .before .args in
-    let pre = c .before .before .before .before .before .before .before .before .before .pre in
-    let anew = fills-anew (a .g) (now (a .store)) (indexed (a .entry)) (a .decider) (sym (fills (c .before .before .before)) ∙ c .before .before .if1 .taken) (pre .1 .1) in
+    let a = c .before .before .before .before .before .before .args in
+    let pre = c .before .before .before .before .before .before .pre in
+    let anew = fills-anew (a .g) (now (a .store)) (indexed (a .entry)) (a .decider) (sym (fills (c .before .before .before)) ∙ c .before .before .if1 .taken) (pre .1 .1 .0) in
     (pre .0, (pre .1 .0, (anew, scanned (c .before .before .before .before) .reached)))
 
 same-length : tie.Need-same-length
@@ -43,21 +40,21 @@ same-length-2 c = search needs
 
 returns : tie.Need-returns
 returns c =
-    let a = c .before .before .before .before .before .before .before .before .before .before .before .before .before .before .args in
+    let a = c .before .before .before .before .before .before .before .before .before .before .before .args in
     c .before .before .before .before .change-and-settle .ensures ∙
     change-merges (a .g) (indexed (a .entry)) (now (a .store)) (now (a .work)) (eqb (a .decider) 0) (sym (fills (c .before .before .before .before .before .before .before .before)) ∙ c .before .before .before .before .before .before .before .if1 .taken)
 
 edit-head-requires : tie.Need-edit-head-requires
 edit-head-requires c κs =
-    let a = c .before .before .before .before .before .before .before .before .args in
-    let pre = c .before .before .before .before .before .before .before .before .pre in
-    accepted-editable (a .g) (a .plan) (now (a .store)) (indexed (a .entry)) (a .decider) (pre .0) (pre .1 .1) (c .before .before .before .head-scan .result .reach) (scanned (c .before .before .before) .reached)
+    let a = c .before .before .before .before .before .args in
+    let pre = c .before .before .before .before .before .pre in
+    accepted-editable (a .g) (a .plan) (now (a .store)) (indexed (a .entry)) (a .decider) (pre .0) (pre .1 .1 .0) (a .head .reach) (scanned (c .before .before .before) .reached)
 
 done-requires : tie.Need-done-requires
 done-requires c κs =
-    let a = c .before .before .before .before .before .before .before .before .before .before .before .before .args in
-    let pre = c .before .before .before .before .before .before .before .before .before .before .before .before .pre in
-    edited-ready (a .g) (a .plan) (now (a .store)) (indexed (a .entry)) (a .decider) (pre .0) (pre .1 .1) (c .before .before .before .before .before .before .before .head-scan .result .reach) (eqb (a .decider) 0) _
+    let a = c .before .before .before .before .before .before .before .before .before .args in
+    let pre = c .before .before .before .before .before .before .before .before .before .pre in
+    edited-ready (a .g) (a .plan) (now (a .store)) (indexed (a .entry)) (a .decider) (pre .0) (pre .1 .1 .0) (a .head .reach) (eqb (a .decider) 0) _
     (c .before .before .before .edit-head .ensures)
 
 same-length-3 : tie.Need-same-length-3
@@ -65,16 +62,15 @@ same-length-3 c = search needs
 
 returns-2 : tie.Need-returns-2
 returns-2 c =
-    let a = c .before .before .before .before .before .before .before .before .before .before .before .before .before .args in
-    let pre = c .before .before .before .before .before .before .before .before .before .before .before .before .before .pre in
-    edited-told (a .g) (a .plan) (now (a .store)) (indexed (a .entry)) (a .decider) (pre .0) (pre .1 .1) (c .before .before .before .before .before .before .before .before .head-scan .result .reach) (eqb (a .decider) 0) _
+    let a = c .before .before .before .before .before .before .before .before .before .before .args in
+    let pre = c .before .before .before .before .before .before .before .before .before .before .pre in
+    edited-told (a .g) (a .plan) (now (a .store)) (indexed (a .entry)) (a .decider) (pre .0) (pre .1 .1 .0) (a .head .reach) (eqb (a .decider) 0) _
     (c .before .before .before .before .edit-head .ensures) (now (a .work)) _ (scanned (c .before .before .before .before .before .before .before .before) .reached) (sym (fills (c .before .before .before .before .before .before .before)) ∙ c .before .before .before .before .before .before .if1 .left) (c .done .ensures)
 
 pub change-spec : {M : Type 1} → statement M
 change-spec =
     tie.close
     (tie.spec
-    head-scan-requires
     fills-head-requires
     change-and-settle-requires
     same-length

@@ -32,8 +32,8 @@ change-requires : tie.Need-change-requires
 change-requires c κs =
     let a = c .before .before .before .before .before .before .before .args in
     let pre = c .before .before .before .before .before .before .before .pre in
-    let accepted = drop-accepted (a .g) (now (a .store)) (now (a .work)) (a .pair) (a .level) (pre .1 .1 .0) (a .held) (not-false (a .held) (c .before .before .before .before .if1 .left)) (c .before .before .if2 .left) (pre .1 .1 .1) in
-    (pre .0, (pre .1 .0, accepted))
+    let accepted = drop-accepted (a .g) (now (a .store)) (now (a .work)) (a .pair) (a .level) (pre .1 .1 .0) (a .held) (not-false (a .held) (c .before .before .before .before .if1 .left)) (c .before .before .if2 .left) (pre .1 .1 .1 .0) in
+    (pre .0, (pre .1 .0, (accepted, pre .1 .1 .1 .1)))
 
 told-requires : tie.Need-told-requires
 told-requires c κs = search needs

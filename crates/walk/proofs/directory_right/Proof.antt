@@ -12,11 +12,8 @@ sub-bottom c = search needs
 cast-bottom : tie.Need-cast-bottom
 cast-bottom c = search needs
 
-mul-most : tie.Need-mul-most
-mul-most c = search needs
-
-element-copy-out-most : tie.Need-element-copy-out-most
-element-copy-out-most c = search needs
+of-level-requires : tie.Need-of-level-requires
+of-level-requires c κs = search needs
 
 pages-right-requires : tie.Need-pages-right-requires
 pages-right-requires c κs = search needs
@@ -48,9 +45,9 @@ both-requires-4 c κs = search needs
 returns : tie.Need-returns
 unfolding directoryRight
 returns c =
-    let g = c .before .before .before .before .before .before .before .before .before .before .before .before .args .g in
-    let w = c .before .before .before .before .before .before .before .before .before .before .before .before .args .store .now in
-    rw (c .both4 .ensures, c .before .before .both3 .ensures, c .before .before .before .before .both2 .ensures, c .before .before .before .before .before .both .ensures, c .before .before .before .before .before .before .pages-right3 .ensures, c .before .before .before .before .before .before .before .pages-right2 .ensures, c .before .before .before .before .before .before .before .before .pages-right .ensures, ← most-at g (c .before .before .before .before .before .before .before .before .before .before .before .before .args .t3) w (c .before .before .before .before .before .before .before .before .before .before .before .before .pre), all-three (pagesRight g w) 1 2 3)
+    let a = c .before .before .before .before .before .before .before .before .before .before .before .before .before .args in
+    let pre = c .before .before .before .before .before .before .before .before .before .before .before .before .before .pre in
+    rw (c .both4 .ensures, c .before .before .both3 .ensures, c .before .before .before .before .both2 .ensures, c .before .before .before .before .before .both .ensures, c .before .before .before .before .before .before .pages-right3 .ensures, c .before .before .before .before .before .before .before .pages-right2 .ensures, c .before .before .before .before .before .before .before .before .pages-right .ensures, c .before .before .before .before .before .before .before .before .before .of-level .ensures, ← most-at (a .g) (a .plan) (a .store .now) pre, all-three (pagesRight (a .g) (a .store .now)) 1 2 3)
 
 pub directory-right-spec : {M : Type 1} → statement M
 directory-right-spec =
@@ -58,8 +55,7 @@ directory-right-spec =
     (tie.spec
     sub-bottom
     cast-bottom
-    mul-most
-    element-copy-out-most
+    of-level-requires
     pages-right-requires
     pages-right-requires-2
     pages-right-requires-3

@@ -5,29 +5,26 @@ use borrow.Author.Needs.{needs}
 use Rattle.walk.proofs.page_place.Statement.{statement}
 use Rattle.walk.proofs.page_place.Tie as tie
 
-mul-result : tie.Need-mul-result
-mul-result c = search needs
-
-element-copy-out-result : tie.Need-element-copy-out-result
-element-copy-out-result c = search needs
+of-level-requires : tie.Need-of-level-requires
+of-level-requires c κs = search needs
 
 cast-result : tie.Need-cast-result
 cast-result c = search needs
 
-mul-result-2 : tie.Need-mul-result-2
-mul-result-2 c = search needs
+mul-result : tie.Need-mul-result
+mul-result c = search needs
 
 add-result : tie.Need-add-result
 add-result c =
-    let h = c .before .pre .1 in
-    omega (arith, page-at (c .before .args .g) (c .before .args .t3) (c .before .args .store .now) (c .before .pre .0) (c .before .args .level) (c .before .args .page) (h .0) (h .1) (h .2) .1)
+    let a = c .before .before .before .args in
+    let h = c .before .before .before .pre .1 in
+    omega (arith, c .of-level .ensures, page-at (a .g) (a .plan) (a .store .now) (c .before .before .before .pre .0) (a .level) (a .page) (h .0) (h .1) (h .2) .1)
 
 returns : tie.Need-returns
 returns c =
-    let h = c .before .pre .1 in
-    page-at (c .before .args .g) (c .before .args .t3) (c .before .args .store .now) (c .before .pre .0) (c .before .args .level) (c .before .args .page) (h .0) (h .1) (h .2)
+    let a = c .before .before .before .args in
+    let h = c .before .before .before .pre .1 in
+    rw (c .of-level .ensures) (page-at (a .g) (a .plan) (a .store .now) (c .before .before .before .pre .0) (a .level) (a .page) (h .0) (h .1) (h .2))
 
 pub page-place-spec : {M : Type 1} → statement M
-page-place-spec =
-    tie.close
-    (tie.spec mul-result element-copy-out-result cast-result mul-result-2 add-result returns)
+page-place-spec = tie.close (tie.spec of-level-requires cast-result mul-result add-result returns)
