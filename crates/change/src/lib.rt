@@ -106,7 +106,7 @@ fn settle_head(store: &mut [u32], work: &mut [u32], g: Geometry, plan: Plan) -> 
     requires { ⌜ Settling g (now store) ⌝ }
     ensures { λ r. ⌜ told r (now (store .exit)) (now (work .exit)) ≡ settledChange g (now (store .entry)) (now (work .entry)) ⌝ }
 {
-    let settled = merge::settle(store, work, g, plan, 0);
+    let settled = merge::settle(store, work, g, 0);
     let end = work.len();
     words::erase(work, 0, end);
     done(store, g, plan, settled.deepest, settled.pages)

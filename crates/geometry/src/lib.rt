@@ -1,6 +1,7 @@
 // Every number that follows from a geometry alone: capacities, page rooms, and where a store's words stand.
 ghost use Prim.Native.Nat.{_≤_, max};
 ghost use mathlib.Core.Path.{_≡_};
+ghost use lib.ListN.{getD};
 ghost use Rattle.geometry.specs.Geometry.{InRange, inRange, between as Spec·between, within as Spec·within, roomOf, capacities as Spec·capacities, rooms as Spec·rooms};
 ghost use Rattle.geometry.specs.Places.{planOf};
 ghost use Rattle.geometry.specs.Bounds.{FourSmall, PlanSmall};
@@ -144,4 +145,21 @@ fn greater(a: u32, b: u32) -> u32
     ensures { λ r. ⌜ r ≡ max a b ⌝ }
 {
     if a < b { b } else { a }
+}
+
+// The number of a level among four. The numbers are told apart by tests, so that they need no place in memory.
+pub fn at_level(four: [u32; 4], level: u32) -> u32
+    requires { ⌜ level ≤ 3 ⌝ }
+    ensures { λ r. ⌜ r ≡ getD four level 0 ⌝ }
+{
+    if level == 0 {
+        return four[0];
+    }
+    if level == 1 {
+        return four[1];
+    }
+    if level == 2 {
+        return four[2];
+    }
+    four[3]
 }

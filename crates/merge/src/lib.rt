@@ -8,7 +8,7 @@ ghost use lib.ListN.{length, getD, set, take};
 ghost use lib.Seq.{sets};
 ghost use lib.Dec.{ltb};
 ghost use Rattle.geometry.specs.Geometry.{bottom};
-ghost use Rattle.geometry.specs.Places.{headStart, workWords};
+ghost use Rattle.geometry.specs.Places.{headStart, planOf, workWords};
 ghost use Rattle.rules.specs.Level.{fences};
 ghost use Rattle.written.specs.Run.{wordsOfAll};
 ghost use Rattle.written.specs.Written.{firstPair};
@@ -23,6 +23,8 @@ use entries::Run;
 use entries::level_run;
 use geometry::Geometry;
 use geometry::Plan;
+use geometry::at_level;
+use geometry::plan_for;
 use writer::Source;
 
 // What settling came to: the deepest level merged into, and the pages written.
@@ -32,16 +34,16 @@ pub struct Settled {
 }
 
 // Settles a level: above the bottom it is merged on if it holds its capacity or more.
-pub fn settle(store: &mut [u32], work: &mut [u32], g: Geometry, plan: Plan, level: u32) -> Settled
-    requires { ⌜ Lent g plan (now store) ⌝ }
+pub fn settle(store: &mut [u32], work: &mut [u32], g: Geometry, level: u32) -> Settled
+    requires { ⌜ Lent g (planOf g) (now store) ⌝ }
     requires { ⌜ length (now work) ≡ workWords g ⌝ }
     requires { ⌜ level < g .levels ⌝ }
     requires { ⌜ Settleable g (bottom g - level) level (now store) ⌝ }
     ensures told { λ r. ⌜ outcome (now (store .exit)) (r .deepest) (r .pages) ≡ settled g (bottom g - level) level (now (store .entry)) ⌝ }
     ensures few { λ r. ⌜ r .pages ≤ 8000 * (bottom g - level) ⌝ }
 {
-    if is_full(store, g, plan, level) {
-        return merge(store, work, g, plan, level);
+    if is_full(store, g, level) {
+        return merge(store, work, g, level);
     }
     Settled {
         deepest: level,
@@ -50,16 +52,16 @@ pub fn settle(store: &mut [u32], work: &mut [u32], g: Geometry, plan: Plan, leve
 }
 
 // Merges a level into the next, which is settled then.
-fn merge(store: &mut [u32], work: &mut [u32], g: Geometry, plan: Plan, level: u32) -> Settled
-    requires { ⌜ Lent g plan (now store) ⌝ }
+fn merge(store: &mut [u32], work: &mut [u32], g: Geometry, level: u32) -> Settled
+    requires { ⌜ Lent g (planOf g) (now store) ⌝ }
     requires { ⌜ length (now work) ≡ workWords g ⌝ }
     requires { ⌜ suc level < g .levels ⌝ }
     requires { ⌜ Mergeable g level (now store) × Settleable g (bottom g - suc level) (suc level) (merged g level (now store)) ⌝ }
     ensures told { λ r. ⌜ outcome (now (store .exit)) (r .deepest) (r .pages) ≡ mergedOn g (bottom g - level) level (now (store .entry)) ⌝ }
     ensures few { λ r. ⌜ r .pages ≤ 8000 * (bottom g - level) ⌝ }
 {
-    let pages = merge_down(store, work, g, plan, level);
-    let rest = settle(store, work, g, plan, level + 1);
+    let pages = merge_down(store, work, g, level);
+    let rest = settle(store, work, g, level + 1);
     Settled {
         deepest: rest.deepest,
         pages: pages + rest.pages,
@@ -67,8 +69,8 @@ fn merge(store: &mut [u32], work: &mut [u32], g: Geometry, plan: Plan, level: u3
 }
 
 // Merges a level into the next: that is written anew, the levels above it are rebuilt with fences alone; gives the pages written.
-fn merge_down(store: &mut [u32], work: &mut [u32], g: Geometry, plan: Plan, level: u32) -> u32
-    requires { ⌜ Lent g plan (now store) ⌝ }
+fn merge_down(store: &mut [u32], work: &mut [u32], g: Geometry, level: u32) -> u32
+    requires { ⌜ Lent g (planOf g) (now store) ⌝ }
     requires { ⌜ length (now work) ≡ workWords g ⌝ }
     requires { ⌜ suc level < g .levels ⌝ }
     requires { ⌜ Mergeable g level (now store) ⌝ }
@@ -76,34 +78,29 @@ fn merge_down(store: &mut [u32], work: &mut [u32], g: Geometry, plan: Plan, leve
     ensures pages { λ r. ⌜ r ≡ mergedPages g level (now (store .entry)) ⌝ }
     ensures few { λ r. ⌜ r ≤ 8000 ⌝ }
 {
-    let joined = join_down(store, work, g, plan, level);
-    let rebuilt = rebuild_above(store, work, g, plan, level);
+    let joined = join_down(store, work, g, level);
+    let rebuilt = rebuild_above(store, work, g, level);
     joined + rebuilt
 }
 
 // Writes the next level anew from a level's entries and its own, and gives its pages.
-fn join_down(store: &mut [u32], work: &mut [u32], g: Geometry, plan: Plan, level: u32) -> u32
-    requires { ⌜ Lent g plan (now store) ⌝ }
+fn join_down(store: &mut [u32], work: &mut [u32], g: Geometry, level: u32) -> u32
+    requires { ⌜ Lent g (planOf g) (now store) ⌝ }
     requires { ⌜ length (now work) ≡ workWords g ⌝ }
     requires { ⌜ suc level < g .levels ⌝ }
     requires { ⌜ Mergeable g level (now store) ⌝ }
     ensures words { λ _. ⌜ now (store .exit) ≡ filled g (suc level) (joined g level (now (store .entry))) (now (store .entry)) ⌝ }
     ensures pages { λ r. ⌜ r ≡ filledPages g (suc level) (joined g level (now (store .entry))) (now (store .entry)) ⌝ }
 {
+    let plan = plan_for(g);
     let upper = run_at(store, g, plan, level);
     let lower = run_at(store, g, plan, level + 1);
-    fill_level(store, work, g, plan, level + 1, upper, lower)
+    fill_level(store, work, g, level + 1, upper, lower)
 }
 
 // Rebuilds a level and those above it with fences alone, the head last, and gives the pages of the levels.
-pub fn rebuild_above(
-    store: &mut [u32],
-    work: &mut [u32],
-    g: Geometry,
-    plan: Plan,
-    level: u32,
-) -> u32
-    requires { ⌜ Lent g plan (now store) ⌝ }
+pub fn rebuild_above(store: &mut [u32], work: &mut [u32], g: Geometry, level: u32) -> u32
+    requires { ⌜ Lent g (planOf g) (now store) ⌝ }
     requires { ⌜ length (now work) ≡ workWords g ⌝ }
     requires { ⌜ level < g .levels ⌝ }
     requires { ⌜ Rebuildable g level (now store) ⌝ }
@@ -113,37 +110,23 @@ pub fn rebuild_above(
     let mut pages = 0;
     let mut i = level;
     while 0 < i {
-        pages += rebuild_level(store, work, g, plan, i);
+        pages += rebuild_level(store, work, g, i);
         i -= 1;
     }
-    rebuild_head(store, g, plan);
+    rebuild_head(store, g, plan_for(g));
     pages
 }
 
 // Rebuilds a level with fences alone, and gives its pages.
-pub fn rebuild_level(
-    store: &mut [u32],
-    work: &mut [u32],
-    g: Geometry,
-    plan: Plan,
-    level: u32,
-) -> u32
-    requires { ⌜ Lent g plan (now store) ⌝ }
+pub fn rebuild_level(store: &mut [u32], work: &mut [u32], g: Geometry, level: u32) -> u32
+    requires { ⌜ Lent g (planOf g) (now store) ⌝ }
     requires { ⌜ length (now work) ≡ workWords g ⌝ }
     requires { ⌜ (1 ≤ level) × (level < g .levels) ⌝ }
     requires { ⌜ Fillable g level [] (now store) ⌝ }
     ensures words { λ _. ⌜ now (store .exit) ≡ filled g level [] (now (store .entry)) ⌝ }
     ensures pages { λ r. ⌜ r ≡ filledPages g level [] (now (store .entry)) ⌝ }
 {
-    fill_level(
-        store,
-        work,
-        g,
-        plan,
-        level,
-        writer::no_run(),
-        writer::no_run(),
-    )
+    fill_level(store, work, g, level, writer::no_run(), writer::no_run())
 }
 
 // Writes a level anew from the entries of two runs joined, over the pages of the level below, and gives its pages.
@@ -151,12 +134,11 @@ pub fn fill_level(
     store: &mut [u32],
     work: &mut [u32],
     g: Geometry,
-    plan: Plan,
     level: u32,
     upper: Run,
     lower: Run,
 ) -> u32
-    requires { ⌜ Lent g plan (now store) ⌝ }
+    requires { ⌜ Lent g (planOf g) (now store) ⌝ }
     requires { ⌜ length (now work) ≡ workWords g ⌝ }
     requires { ⌜ (1 ≤ level) × (level < g .levels) ⌝ }
     requires { ⌜ Joinable (now store) upper lower ⌝ }
@@ -164,6 +146,7 @@ pub fn fill_level(
     ensures words { λ _. ⌜ now (store .exit) ≡ filled g level (join (entriesIn (now (store .entry)) upper) (entriesIn (now (store .entry)) lower)) (now (store .entry)) ⌝ }
     ensures pages { λ r. ⌜ r ≡ filledPages g level (join (entriesIn (now (store .entry)) upper) (entriesIn (now (store .entry)) lower)) (now (store .entry)) ⌝ }
 {
+    let plan = plan_for(g);
     let source = source_over(store, g, plan, level, upper, lower);
     let slots = writer::write_level(store, work, source);
     put_level(store, work, plan, level, writer::pages_for(slots))
@@ -176,8 +159,10 @@ fn put_level(store: &mut [u32], work: &[u32], plan: Plan, level: u32, pages: u32
     ensures pages { λ r. ⌜ r ≡ pages ⌝ }
 {
     let i = level as usize;
-    let start = plan.starts[i] as usize;
-    let room = plan.rooms[i] as usize;
+    let starts = plan.starts;
+    let rooms = plan.rooms;
+    let start = at_level(starts, level) as usize;
+    let room = at_level(rooms, level) as usize;
     words::copy_in(store, start, work, geometry::PAGE_WORDS * room);
     store[geometry::PAGE_COUNTS + i] = pages;
     pages
@@ -198,19 +183,21 @@ fn source_over(store: &[u32], g: Geometry, plan: Plan, level: u32, upper: Run, l
             fenced: false,
         };
     }
+    let starts = plan.starts;
+    let below_start = at_level(starts, level + 1);
     let i = level as usize + 1;
     Source {
         upper,
         lower,
-        below_start: plan.starts[i],
+        below_start,
         below: store[geometry::PAGE_COUNTS + i],
         fenced: true,
     }
 }
 
 // Whether a level is to be merged on: it is above the bottom, and holds its capacity or more.
-fn is_full(store: &[u32], g: Geometry, plan: Plan, level: u32) -> bool
-    requires { ⌜ Lent g plan (now store) ⌝ }
+fn is_full(store: &[u32], g: Geometry, level: u32) -> bool
+    requires { ⌜ Lent g (planOf g) (now store) ⌝ }
     requires { ⌜ PagesWithin g (now store) ⌝ }
     requires { ⌜ level < g .levels ⌝ }
     ensures { λ r. ⌜ r ≡ (ltb (suc level) (g .levels) && not (roomAt g (now (store .entry)) level)) ⌝ }
@@ -218,7 +205,9 @@ fn is_full(store: &[u32], g: Geometry, plan: Plan, level: u32) -> bool
     if g.levels <= level + 1 {
         return false;
     }
-    let capacity = plan.capacities[level as usize];
+    let plan = plan_for(g);
+    let capacities = plan.capacities;
+    let capacity = at_level(capacities, level);
     capacity <= count_entries(store, run_at(store, g, plan, level))
 }
 
@@ -235,7 +224,8 @@ fn run_at(store: &[u32], g: Geometry, plan: Plan, level: u32) -> Run
             most: plan.head_room,
         };
     }
-    level_run(store, g, level, plan.starts[level as usize])
+    let starts = plan.starts;
+    level_run(store, g, level, at_level(starts, level))
 }
 
 // Rebuilds the head: a fence for each page of level 1, and unused slots behind them.

@@ -3,6 +3,8 @@ use native.Mathlib.Nat.{sub-zero}
 use mathlib.Core.Path.{refl}
 use denote.Ref.{now}
 use Rattle.geometry.specs.Geometry.{bottom}
+use Rattle.geometry.specs.Places.{planOf}
+use Rattle.geometry.specs.Lent.{lent}
 use Rattle.change.specs.Settled.{settled-ready, settled-told}
 use native.Mathlib.Omega.{arith}
 use borrow.Author.Needs.{needs}
@@ -13,7 +15,7 @@ settle-requires : tie.Need-settle-requires
 settle-requires c κs =
     let a = c .before .before .before .before .args in
     let pre = c .before .before .before .before .pre in
-    (pre .0, (pre .1 .0, (omega (arith, pre .0 .in-range .levels-least), rw (sub-zero (bottom (a .g))) (pre .1 .1 .asked))))
+    (lent (a .g) (planOf (a .g)) (now (a .store)) (pre .0 .in-range) refl (pre .0 .exact), (pre .1 .0, (omega (arith, pre .0 .in-range .levels-least), rw (sub-zero (bottom (a .g))) (pre .1 .1 .asked))))
 
 erase-requires : tie.Need-erase-requires
 erase-requires c κs = search needs

@@ -3,6 +3,7 @@ use Prim.Native.Nat.{_+_, _-_, _*_}
 use native.Mathlib.Numerals.{add-one}
 use mathlib.Core.Path.{sym, _∙_}
 use denote.Ref.{now}
+use Rattle.geometry.specs.Places.{planOf}
 use Rattle.geometry.specs.Lent.{lent}
 use Rattle.merge.specs.Settling.{settle-within, full-above, full-mergeable, full-settled, stays-settled, merge-settled}
 use borrow.Author.Needs.{needs}
@@ -22,10 +23,10 @@ use Rattle.merge.proofs.+merge+settle.{statement}
 use Rattle.merge.proofs.+merge+settle.Tie.{close}
 
 abbrev μ-merge : Measures 2 merge-kinds.ps ℕ
-μ-merge κs a = 2 * (a .1 .1 .0 .levels - a .1 .1 .1 .1 .0)
+μ-merge κs a = 2 * (a .1 .1 .0 .levels - a .1 .1 .1 .0)
 
 abbrev μ-settle : Measures 2 settle-kinds.ps ℕ
-μ-settle κs a = 2 * (a .1 .1 .0 .levels - a .1 .1 .1 .1 .0) + 1
+μ-settle κs a = 2 * (a .1 .1 .0 .levels - a .1 .1 .1 .0) + 1
 
 abbrev merge-at : ℕ → In 2 merge-kinds.ps
 merge-at t = and 2 merge-kinds.ps (is 2 merge-kinds.ps μ-merge t) merge.Pre
@@ -65,7 +66,7 @@ merge-settle-requires t c κs =
     let l = c .before .before .before .before .before .before .before .before .before .before .before .pre .1 .0 in (
       omega (arith, c .before .before .before .before .before .before .before .before .before .before .before .pre .0, c .before .before .before .before .before .before .before .before .before .before .before .pre .1 .1 .1 .0),
       (
-        lent (c .before .before .before .before .before .before .before .before .before .before .before .args .g) (c .before .before .before .before .before .before .before .before .before .before .before .args .plan) _ (l .in-range) (l .planned) (omega (arith, l .exact)),
+        lent (c .before .before .before .before .before .before .before .before .before .before .before .args .g) (planOf (c .before .before .before .before .before .before .before .before .before .before .before .args .g)) _ (l .in-range) (l .planned) (omega (arith, l .exact)),
         (
           omega (arith, c .before .before .before .before .before .before .before .before .before .before .before .pre .1 .1 .0),
           (
@@ -76,13 +77,13 @@ merge-settle-requires t c κs =
       ),
     )
 
-merge-add-t16 : (t : ℕ) → merge-lts.Need-add-t16 (
+merge-add-t15 : (t : ℕ) → merge-lts.Need-add-t15 (
   merge-down-reads.Asked,
   merge-down-reads.Learnt,
   settle-below t,
   settle.Post,
 ) (merge-at t) merge.Post
-merge-add-t16 t c = search needs
+merge-add-t15 t c = search needs
 
 merge-same-length : (t : ℕ) → merge-lts.Need-same-length (
   merge-down-reads.Asked,
@@ -193,7 +194,7 @@ pub +merge+settle-spec : {M : Type 1} → statement M
     (merge-merge-down-requires t)
     (merge-add-settle t)
     (merge-settle-requires t)
-    (merge-add-t16 t)
+    (merge-add-t15 t)
     (merge-same-length t)
     (merge-same-length-2 t)
     (merge-returns t))

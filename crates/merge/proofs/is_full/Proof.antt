@@ -1,8 +1,9 @@
+-- `is_full` tells whether a level is above the bottom and holds its capacity or more. Assumes nothing.
 use Prim.Native.Nat.{suc}
 use mathlib.Core.Path.{refl, _∙_}
 use denote.Ref.{now}
 use borrow.Author.Tests.{lt-ltb, le-ltb}
-use Rattle.geometry.specs.Lent.{capacities-at}
+use Rattle.geometry.specs.Lent.{lent, capacities-at}
 use Rattle.merge.specs.Filling.{full-told}
 use Rattle.merge.specs.Runs.{run-inside}
 use native.Mathlib.Omega.{arith}
@@ -14,22 +15,25 @@ add-if1 : tie.Need-add-if1
 add-if1 c = search needs
 
 returns : tie.Need-returns
-returns c = rw (le-ltb (suc (c .before .before .before .args .level)) (c .before .before .before .args .g .levels) (omega arith))
+returns c = rw (le-ltb (suc (c .before .before .before .args .level)) (c .before .before .before .args .g .levels) (omega (arith, c .if1 .taken)))
 
-mul-capacity : tie.Need-mul-capacity
-mul-capacity c = search needs
+plan-for-requires : tie.Need-plan-for-requires
+plan-for-requires c κs = c .before .before .before .pre .0 .in-range
 
-element-copy-out-capacity : tie.Need-element-copy-out-capacity
-element-copy-out-capacity c = search needs
+at-level-requires : tie.Need-at-level-requires
+at-level-requires c κs = omega (arith, c .before .before .before .before .before .pre .0 .in-range .levels-most, c .before .before .before .before .before .pre .1 .1)
 
 run-at-requires : tie.Need-run-at-requires
-run-at-requires c κs = search needs
+run-at-requires c κs = ((lent (c .before .before .before .before .before .before .args .g) _ (now (c .before .before .before .before .before .before .args .store)) (c .before .before .before .before .before .before .pre .0 .in-range) (c .before .before .plan-for .ensures .0) (c .before .before .before .before .before .before .pre .0 .exact)), c .before .before .before .before .before .before .pre .1 .1)
 
 count-entries-requires : tie.Need-count-entries-requires
-count-entries-requires c κs = rw (c .run-at .ensures) (run-inside (c .before .before .before .before .before .args .g) (c .before .before .before .before .before .args .t3) (now (c .before .before .before .before .before .args .store)) (c .before .before .before .before .before .pre .0) (c .before .before .before .before .before .pre .1 .0) (c .before .before .before .before .before .args .level) (c .before .before .before .before .before .pre .1 .1))
+count-entries-requires c κs = rw (c .run-at .ensures) (run-inside (c .before .before .before .before .before .before .before .args .g) _ (now (c .before .before .before .before .before .before .before .args .store)) (c .before .before .before .before .before .before .before .pre .0) (c .before .before .before .before .before .before .before .pre .1 .0) (c .before .before .before .before .before .before .before .args .level) (c .before .before .before .before .before .before .before .pre .1 .1))
 
 returns-2 : tie.Need-returns-2
-returns-2 c = rw (lt-ltb (suc (c .before .before .before .before .before .before .args .level)) (c .before .before .before .before .before .before .args .g .levels) (omega arith)) (full-told (c .before .before .before .before .before .before .args .g) (now (c .before .before .before .before .before .before .args .store)) (c .before .before .before .before .before .before .args .level) _ _ (capacities-at (c .before .before .before .before .before .before .args .g) (c .before .before .before .before .before .before .args .t3) (now (c .before .before .before .before .before .before .args .store)) (c .before .before .before .before .before .before .pre .0) (c .before .before .before .before .before .before .args .level) (c .before .before .before .before .before .before .pre .1 .1)) ((c .count-entries .ensures) ∙ rw (c .before .run-at .ensures) refl))
+returns-2 c =
+    let n = c .before .before .at-level .ensures ∙ capacities-at (c .before .before .before .before .before .before .before .before .args .g) _ (now (c .before .before .before .before .before .before .before .before .args .store)) (lent (c .before .before .before .before .before .before .before .before .args .g) _ (now (c .before .before .before .before .before .before .before .before .args .store)) (c .before .before .before .before .before .before .before .before .pre .0 .in-range) (c .before .before .before .before .plan-for .ensures .0) (c .before .before .before .before .before .before .before .before .pre .0 .exact)) (c .before .before .before .before .before .before .before .before .args .level) (c .before .before .before .before .before .before .before .before .pre .1 .1) in
+    rw (lt-ltb (suc (c .before .before .before .before .before .before .before .before .args .level)) (c .before .before .before .before .before .before .before .before .args .g .levels) (omega (arith, c .before .before .before .before .before .if1 .left)))
+    (full-told (c .before .before .before .before .before .before .before .before .args .g) (now (c .before .before .before .before .before .before .before .before .args .store)) (c .before .before .before .before .before .before .before .before .args .level) _ _ n ((c .count-entries .ensures) ∙ rw (c .before .run-at .ensures) refl))
 
 pub is-full-spec : {M : Type 1} → statement M
 is-full-spec =
@@ -37,8 +41,8 @@ is-full-spec =
     (tie.spec
     add-if1
     returns
-    mul-capacity
-    element-copy-out-capacity
+    plan-for-requires
+    at-level-requires
     run-at-requires
     count-entries-requires
     returns-2)

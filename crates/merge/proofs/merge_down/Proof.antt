@@ -1,6 +1,6 @@
 use denote.Ref.{now}
+use Rattle.geometry.specs.Places.{planOf}
 use Rattle.geometry.specs.Lent.{lent}
-use Rattle.merge.specs.Filling.{merged}
 use Rattle.merge.specs.Rebuilding.{merged-few, merges-told}
 use native.Mathlib.Omega.{arith}
 use borrow.Author.Needs.{needs}
@@ -13,7 +13,7 @@ join-down-requires c κs = search needs
 rebuild-above-requires : tie.Need-rebuild-above-requires
 rebuild-above-requires c κs =
     let l = c .before .before .before .before .before .before .before .before .before .before .before .pre .0 in
-    (lent (c .before .before .before .before .before .before .before .before .before .before .before .args .g) (c .before .before .before .before .before .before .before .before .before .before .before .args .plan) _ (l .in-range) (l .planned) (omega (arith, l .exact)), (omega (arith, c .before .before .before .before .before .before .before .before .before .before .before .pre .1 .0), (omega arith, rw (c .before .before .before .before .before .before .join-down .ensures .0) (c .before .before .before .before .before .before .before .before .before .before .before .pre .1 .1 .1 .rebuilds))))
+    (lent (c .before .before .before .before .before .before .before .before .before .before .before .args .g) (planOf (c .before .before .before .before .before .before .before .before .before .before .before .args .g)) _ (l .in-range) (l .planned) (omega (arith, l .exact)), (omega (arith, c .before .before .before .before .before .before .before .before .before .before .before .pre .1 .0), (omega arith, rw (c .before .before .before .before .before .before .join-down .ensures .0) (c .before .before .before .before .before .before .before .before .before .before .before .pre .1 .1 .1 .rebuilds))))
 
 add-result : tie.Need-add-result
 add-result c =

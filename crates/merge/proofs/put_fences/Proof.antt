@@ -1,4 +1,3 @@
-use lib.ListN.{length}
 use mathlib.Core.Path.{_≡_, refl}
 use denote.Ref.{now}
 use Rattle.written.specs.Written.{firstPair}

@@ -1,22 +1,17 @@
+-- `put_level` copies a level's pages from the work area, and sets its page count. Assumes nothing.
 use mathlib.Core.Path.{refl}
 use borrow.Author.Needs.{needs}
 use Rattle.merge.proofs.put_level.Statement.{statement}
 use Rattle.merge.proofs.put_level.Tie as tie
 
-mul-start : tie.Need-mul-start
-mul-start c = search needs
-
-element-copy-out-start : tie.Need-element-copy-out-start
-element-copy-out-start c = search needs
+at-level-requires : tie.Need-at-level-requires
+at-level-requires c κs = c .before .before .before .before .pre .exists
 
 cast-start : tie.Need-cast-start
 cast-start c = search needs
 
-mul-room : tie.Need-mul-room
-mul-room c = search needs
-
-element-copy-out-room : tie.Need-element-copy-out-room
-element-copy-out-room c = search needs
+at-level-requires-2 : tie.Need-at-level-requires-2
+at-level-requires-2 c κs = c .before .before .before .before .before .pre .exists
 
 cast-room : tie.Need-cast-room
 cast-room c = search needs
@@ -40,17 +35,15 @@ same-length : tie.Need-same-length
 same-length c = search needs
 
 returns : tie.Need-returns
-returns c = (rw (c .before .before .copy-in .ensures) refl, refl)
+returns c = (rw (c .before .before .copy-in .ensures, c .before .before .before .before .before .at-level .ensures, c .before .before .before .before .at-level2 .ensures) refl, refl)
 
 pub put-level-spec : {M : Type 1} → statement M
 put-level-spec =
     tie.close
     (tie.spec
-    mul-start
-    element-copy-out-start
+    at-level-requires
     cast-start
-    mul-room
-    element-copy-out-room
+    at-level-requires-2
     cast-room
     mul-copy-in
     copy-in-requires

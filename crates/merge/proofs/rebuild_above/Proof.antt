@@ -3,6 +3,7 @@ use Prim.Native.Nat.{_-_}
 use lib.ListN.{length}
 use mathlib.Core.Path.{_≡_, refl, _∙_}
 use denote.Ref.{now}
+use Rattle.geometry.specs.Places.{planOf}
 use Rattle.geometry.specs.Lent.{lent}
 use Rattle.merge.specs.Rebuilding.{Rebuilding, rebuilding-begins, next-fillable, rebuilding-goes-on, rebuilding-few, head-within, rebuilding-ends}
 use borrow.Author.Needs.{needs}
@@ -11,10 +12,10 @@ use Rattle.merge.proofs.rebuild_above.Statement.{statement}
 use Rattle.merge.proofs.rebuild_above.Tie as tie
 
 abbrev Inv-loop : tie.InvT-loop
-Inv-loop store₀ work₀ g plan level pages₀ i₀ store work pages i = Rebuilding g store₀ level store i pages × (length work ≡ length work₀)
+Inv-loop store₀ work₀ g level pages₀ i₀ store work pages i = Rebuilding g store₀ level store i pages × (length work ≡ length work₀)
 
 abbrev μ-loop : tie.MeasureT-loop
-μ-loop store₀ work₀ g plan level pages₀ i₀ store work pages i = i
+μ-loop store₀ work₀ g level pages₀ i₀ store work pages i = i
 
 loop-holds : tie.Need-loop-holds Inv-loop μ-loop
 loop-holds c = (rebuilding-begins (c .before .before .args .g) (now (c .before .before .args .store)) (c .before .before .args .level) (c .before .before .pre .1 .1 .1), refl)
@@ -23,7 +24,7 @@ rebuild-level-requires : tie.Need-rebuild-level-requires Inv-loop μ-loop
 rebuild-level-requires c κs =
     let so = c .before .before .before .loop .inv .0 in
     let l = c .before .before .before .before .before .before .pre .0 in (
-      lent (c .before .before .before .before .before .before .args .g) (c .before .before .before .before .before .before .args .plan) (c .before .before .before .loop .store) (l .in-range) (l .planned) (so .long ∙ l .exact),
+      lent (c .before .before .before .before .before .before .args .g) (planOf (c .before .before .before .before .before .before .args .g)) (c .before .before .before .loop .store) (l .in-range) (l .planned) (so .long ∙ l .exact),
       (
         c .before .before .before .loop .inv .1 ∙ (c .before .before .before .before .before .before .pre .1 .0),
         ((omega arith, omega (arith, so .reaches, c .before .before .before .before .before .before .pre .1 .1 .0)), next-fillable (c .before .before .before .before .before .before .args .g) (now (c .before .before .before .before .before .before .args .store)) (c .before .before .before .before .before .before .args .level) (c .before .before .before .loop .store) (c .before .before .before .loop .pages) (c .before .before .before .loop .i) so (omega arith)),
@@ -51,22 +52,25 @@ loop-again c =
       omega (arith, c .before .before .before .before .before .before .before .before .loop .inv .1),
     )
 
+plan-for-requires : tie.Need-plan-for-requires Inv-loop μ-loop
+plan-for-requires c κs = c .before .before .before .before .before .pre .0 .in-range
+
 rebuild-head-requires : tie.Need-rebuild-head-requires Inv-loop μ-loop
 rebuild-head-requires c κs =
-    let so = c .before .before .loop .inv .0 in
-    let l = c .before .before .before .before .before .pre .0 in (
-      lent (c .before .before .before .before .before .args .g) (c .before .before .before .before .before .args .plan) (c .before .before .loop .store) (l .in-range) (l .planned) (so .long ∙ l .exact),
-      head-within (c .before .before .before .before .before .args .g) (now (c .before .before .before .before .before .args .store)) (c .before .before .before .before .before .args .level) (c .before .before .loop .store) (c .before .before .loop .pages) (c .before .before .loop .i) so (omega arith),
+    let so = c .before .before .before .loop .inv .0 in
+    let l = c .before .before .before .before .before .before .pre .0 in (
+      lent (c .before .before .before .before .before .before .args .g) _ (c .before .before .before .loop .store) (l .in-range) (c .plan-for .ensures .0) (so .long ∙ l .exact),
+      head-within (c .before .before .before .before .before .before .args .g) (now (c .before .before .before .before .before .before .args .store)) (c .before .before .before .before .before .before .args .level) (c .before .before .before .loop .store) (c .before .before .before .loop .pages) (c .before .before .before .loop .i) so (omega arith),
     )
 
 same-length : tie.Need-same-length Inv-loop μ-loop
-same-length c = omega (arith, c .before .before .before .before .before .loop .inv .0 .long)
+same-length c = omega (arith, c .before .before .before .before .before .before .loop .inv .0 .long)
 
 same-length-2 : tie.Need-same-length-2 Inv-loop μ-loop
-same-length-2 c = omega (arith, c .before .before .before .before .before .loop .inv .1)
+same-length-2 c = omega (arith, c .before .before .before .before .before .before .loop .inv .1)
 
 returns : tie.Need-returns Inv-loop μ-loop
-returns c = rebuilding-ends (c .before .before .before .before .before .before .before .before .args .g) (now (c .before .before .before .before .before .before .before .before .args .store)) (c .before .before .before .before .before .before .before .before .args .level) (c .before .before .before .before .before .loop .store) (c .before .before .before .before .before .loop .pages) (c .before .before .before .before .before .loop .i) (c .before .before .before .before .before .loop .inv .0) (omega arith) (c .before .before .rebuild-head .ensures)
+returns c = rebuilding-ends (c .before .before .before .before .before .before .before .before .before .args .g) (now (c .before .before .before .before .before .before .before .before .before .args .store)) (c .before .before .before .before .before .before .before .before .before .args .level) (c .before .before .before .before .before .before .loop .store) (c .before .before .before .before .before .before .loop .pages) (c .before .before .before .before .before .before .loop .i) (c .before .before .before .before .before .before .loop .inv .0) (omega arith) (c .before .before .rebuild-head .ensures)
 
 pub rebuild-above-spec : {M : Type 1} → statement M
 rebuild-above-spec =
@@ -80,6 +84,7 @@ rebuild-above-spec =
     sub-i
     loop-less
     loop-again
+    plan-for-requires
     rebuild-head-requires
     same-length
     same-length-2

@@ -1,3 +1,4 @@
+-- `run_at` gives the run of a level, or of the head. Assumes nothing.
 use mathlib.Core.Path.{_∙_}
 use denote.Ref.{now}
 use Rattle.geometry.specs.Lent.{starts-at, head-room-at}
@@ -13,27 +14,16 @@ cast-t7 c = search needs
 
 returns : tie.Need-returns
 unfolding runAt headRun
-returns c = rw (c .if1 .taken, head-room-at (c .before .before .args .g) (c .before .before .args .t3) (now (c .before .before .args .store)) (c .before .before .pre .0))
+returns c = rw (c .if1 .taken, head-room-at (c .before .before .args .g) (c .before .before .args .plan) (now (c .before .before .args .store)) (c .before .before .pre .0))
 
-mul-level-run : tie.Need-mul-level-run
-mul-level-run c = search needs
-
-element-copy-out-level-run : tie.Need-element-copy-out-level-run
-element-copy-out-level-run c = search needs
+at-level-requires : tie.Need-at-level-requires
+at-level-requires c κs = omega (arith, c .before .before .before .pre .0 .in-range .levels-most, c .before .before .before .pre .1)
 
 level-run-requires : tie.Need-level-run-requires
-level-run-requires c κs = ((omega (arith, c .before .before .before .pre .0 .in-range .levels-most), omega arith), starts-at (c .before .before .before .args .g) (c .before .before .before .args .t3) (now (c .before .before .before .args .store)) (c .before .before .before .pre .0) (c .before .before .before .args .level) (omega arith) (omega (arith, c .before .before .before .pre .0 .in-range .levels-most)))
+level-run-requires c κs = ((omega (arith, c .before .before .before .before .pre .0 .in-range .levels-most, c .before .before .before .before .pre .1), c .before .before .before .before .pre .0 .nine), c .at-level .ensures ∙ starts-at (c .before .before .before .before .args .g) (c .before .before .before .before .args .plan) (now (c .before .before .before .before .args .store)) (c .before .before .before .before .pre .0) (c .before .before .before .before .args .level) (omega (arith, c .before .before .if1 .left)) (omega (arith, c .before .before .before .before .pre .0 .in-range .levels-most, c .before .before .before .before .pre .1)))
 
 returns-2 : tie.Need-returns-2
-returns-2 c = (c .level-run .ensures) ∙ level-at (c .before .before .before .before .args .g) (now (c .before .before .before .before .args .store)) (c .before .before .before .before .args .level) (omega arith)
+returns-2 c = (c .level-run .ensures) ∙ level-at (c .before .before .before .before .before .args .g) (now (c .before .before .before .before .before .args .store)) (c .before .before .before .before .before .args .level) (omega (arith, c .before .before .before .if1 .left))
 
 pub run-at-spec : {M : Type 1} → statement M
-run-at-spec =
-    tie.close
-    (tie.spec
-    cast-t7
-    returns
-    mul-level-run
-    element-copy-out-level-run
-    level-run-requires
-    returns-2)
+run-at-spec = tie.close (tie.spec cast-t7 returns at-level-requires level-run-requires returns-2)
