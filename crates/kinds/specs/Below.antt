@@ -7,7 +7,7 @@ use mathlib.Core.List.{List, [], _∷_}
 use lib.Dec.{eqb}
 use borrow.Author.Tests.{ne-eqb}
 use Rattle.laws.specs.Lists.{span, concat, all}
-use Rattle.laws.specs.Tests.{and-left, and-right}
+use Rattle.laws.specs.Tests.{and-left, and-right, and-true}
 use Rattle.geometry.specs.declared.Geometry.{Geometry}
 use Rattle.geometry.specs.Geometry.{InRange}
 use Rattle.rules.specs.Tree.{Level, Tree}
@@ -72,10 +72,6 @@ pub top-alone : (w : List ℕ) (rs : Runs) (n : Tally) → treeIn w (belowOf rs)
 top-alone w rs n none told = rw told (stands-alone (entriesIn w (rs .head)) ∙ rw (← none) (top-stands w rs))
 
 -- Every level of four stands right over those below it.
-and-true : (b : Bool) → (b && true) ≡ b
-and-true true = refl
-and-true false = refl
-
 pub alternating-four : (w : List ℕ) (rs : Runs) →
     alternating (treeIn w rs) ≡
     (topStands (treeIn w rs) && (topStands (treeIn w (belowOf rs)) && (topStands (treeIn w (belowOf (belowOf rs))) && topStands (treeIn w (belowOf (belowOf (belowOf rs)))))))

@@ -2,11 +2,12 @@
 -- Assumes nothing.
 use Prim.Native.Nat.{ℕ, suc, _+_, _*_, _/_, _≤_, _<_}
 use native.Mathlib.Omega.{arith}
-use mathlib.Core.Path.{_≡_, refl, ap, sym, _∙_}
-use mathlib.Core.Bool.{Bool, true, false, _&&_}
+use mathlib.Core.Path.{_≡_, ap, sym, _∙_}
+use mathlib.Core.Bool.{Bool, true, false}
 use mathlib.Core.List.{List, []}
 use mathlib.Core.Option.{none, some}
 use lib.ListN.{length, set, length-set}
+use Rattle.laws.specs.Tests.{and-true}
 use Rattle.slot.specs.declared.Pair.{Pair}
 use Rattle.slot.specs.Pair.{before, least, least-first}
 use Rattle.slot.specs.Order.{above-not-before}
@@ -30,10 +31,6 @@ going-begins second t slice a h = record { reaches = list-begins least second t 
 wanted-by-kind : (second : Pair) (f : Entry) (b : Bool) → f .normal ≡ b → before second (f .pair) ≡ false → wanted least second f ≡ b
 unfolding wanted
 wanted-by-kind second f b k o = rw (k, above-not-before (f .pair) least (omega (arith, least-first)), o) (and-true b)
-  where
-    and-true : (b : Bool) → (b && true) ≡ b
-    and-true true = refl
-    and-true false = refl
 
 module _ (second : Pair) (n : ℕ) (t : Tree) (slice : List ℕ) (whole : Listed) (so : Going second n t slice whole) where
   -- No pair comes, or no room is left.

@@ -29,19 +29,19 @@ skip-all-none p [] a = refl
 skip-all-none p (es ∷ t) a = ap₂ (λ (x : Level) (y : Tree). x ∷ y) (skip-none p es (a .0)) (skip-all-none p t (a .1))
 
 -- A pair before it may be gone first.
-skip-past : (p q : Pair) (es : Level) → before q p ≡ true → skip p (past q es) ≡ skip p es
+skip-gone : (p q : Pair) (es : Level) → before q p ≡ true → skip p (past q es) ≡ skip p es
 unfolding past
-skip-past p q [] b = refl
-skip-past p q (e ∷ es) b = by-pair (same q (e .pair)) refl
+skip-gone p q [] b = refl
+skip-gone p q (e ∷ es) b = by-pair (same q (e .pair)) refl
   where
     by-pair : (s : Bool) → same q (e .pair) ≡ s → skip p (elim s [ true ↦ es | false ↦ e ∷ es ]) ≡ skip p (e ∷ es)
     by-pair true x = sym (skip-on p e es (below-before (e .pair) p (omega (arith, before-below q p b, same-level q (e .pair) x))))
     by-pair false x = refl
 
-skip-all-past : (p q : Pair) (t : Tree) → before q p ≡ true → skipAll p (pastAll q t) ≡ skipAll p t
+skip-all-gone : (p q : Pair) (t : Tree) → before q p ≡ true → skipAll p (pastAll q t) ≡ skipAll p t
 unfolding skipAll pastAll
-skip-all-past p q [] b = refl
-skip-all-past p q (es ∷ t) b = ap₂ (λ (x : Level) (y : Tree). x ∷ y) (skip-past p q es b) (skip-all-past p q t b)
+skip-all-gone p q [] b = refl
+skip-all-gone p q (es ∷ t) b = ap₂ (λ (x : Level) (y : Tree). x ∷ y) (skip-gone p q es b) (skip-all-gone p q t b)
 
 -- What a tree keeps of another: its held pairs up to the second are the range's, its levels ascend, and it has no more entries.
 pub record Keeps (first second : Pair) (t u : Tree) : Type 0 where
@@ -74,7 +74,7 @@ module _ (first second : Pair) where
           (entryCount (pastAll (f .pair) t) < n → AllFrom 0 (pastAll (f .pair) t) → Keeps first second (pastAll (f .pair) t) (skipAll first (pastAll (f .pair) t))) →
           Keeps first second t (skipAll first t)
       by-order f m true b ih =
-          let on = rw (skip-all-past first (f .pair) t b) at
+          let on = rw (skip-all-gone first (f .pair) t b) at
           (ih (omega (arith, h, m .fewer)) (all-from-lower 0 (suc (rankOf f)) (pastAll (f .pair) t) (omega arith) (all-from-past (f .pair) t (m .from)))) in
           record { pairs = held-between-passed first second t f m (before-first f b) ∙ on .pairs; ascends = on .ascends; fewer = omega (arith, on .fewer, m .fewer) }
       by-order f m false b ih = keeps-all t (all-from-lower (rank first) (rankOf f) t (not-before-above (f .pair) first b) (m .from))
