@@ -1,13 +1,16 @@
 -- A cursor in one number, and the index entries from it on, as the clauses of src/lib.rt cite them. Assumes nothing.
-use Prim.Native.Nat.{ℕ, suc, _+_, _-_, _*_, _/_, _%_, _^_, _≤_, _<_}
+use Prim.Native.Nat.{ℕ, _+_, _-_, _*_, _/_, _%_, _≤_, _<_}
 use native.Mathlib.Nat.{min-le-right}
 use native.Mathlib.Omega.{arith}
 use mathlib.Core.Path.{_≡_, refl, ap, sym, _∙_}
 use mathlib.Core.Bool.{Bool, true, false}
 use mathlib.Core.List.{List, [], _∷_}
 use lib.ListN.{getD}
+use lib.Dec.{leb}
+use borrow.Author.Tests.{leb-true}
 use Rattle.slot.specs.declared.Pair.{Pair}
 use Rattle.slot.specs.declared.Slot.{Slot}
+use Rattle.slot.specs.Pair.{least}
 use Rattle.slot.specs.Slot.{slotAt}
 use Rattle.rules.specs.Tree.{Level, Tree}
 use Rattle.rules.specs.Level.{fenceKind}
@@ -19,7 +22,7 @@ use Rattle.entries.specs.declared.Spots.{Spots}
 use Rattle.entries.specs.declared.Entry.{Entry}
 use Rattle.entries.specs.Run.{Inside, countIn, placeIn, restFrom, rest, entriesIn, shown-index, slot-inside, rest-none, rest-all, rest-found}
 use Rattle.entries.specs.Levels.{treeIn}
-use Rattle.entries.specs.Skip.{stopsAt, stops-index, slotIn, slot-read}
+use Rattle.entries.specs.Skip.{skip, skip-least, stopsAt, stops-index, slotIn, slot-read}
 
 -- 2^32 times the page number, and the slot number.
 unfoldable pub spotOf : ℕ → ℕ → ℕ
@@ -51,6 +54,18 @@ upcoming-all w run = rest-all w run
 pub upcoming-none : (w : List ℕ) (run : Run) (spot : ℕ) → run .pages ≤ pageAt spot → upcoming w run spot ≡ []
 unfolding upcoming rest
 upcoming-none w run spot h = rest-none w run (pageAt spot) (slotNumber spot) h
+
+module _ (w : List ℕ) (run : Run) where
+  -- The first entry stands where the first one not before the least pair does.
+  pub from-least : (spot next : ℕ) (p : Pair) → p ≡ least → upcoming w run next ≡ skip p (upcoming w run spot) → upcoming w run next ≡ upcoming w run spot
+  from-least spot next p l e = e ∙ ap (λ (p : Pair). skip p (upcoming w run spot)) l ∙ skip-least (upcoming w run spot)
+
+  pub from-first : (next : ℕ) (p : Pair) → p ≡ least → upcoming w run next ≡ skip p (upcoming w run 0) → upcoming w run next ≡ entriesIn w run
+  from-first next p l e = from-least 0 next p l e ∙ upcoming-all w run
+
+  -- A run that has ended there has none.
+  pub none-left : (spot : ℕ) (ended : Bool) → ended ≡ leb (run .pages) (pageAt spot) → ended ≡ true → upcoming w run spot ≡ []
+  none-left spot ended e t = upcoming-none w run spot (leb-true _ _ (sym e ∙ t))
 
 -- So in four runs.
 unfoldable pub upcomings : List ℕ → Runs → Spots → Tree

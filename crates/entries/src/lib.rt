@@ -7,9 +7,9 @@ ghost use lib.ListN.{length};
 ghost use lib.Dec.{leb};
 ghost use Rattle.rules.specs.Level.{index};
 ghost use Rattle.entries.specs.Run.{Inside, entry as indexed, countIn, placeIn};
-ghost use Rattle.entries.specs.Levels.{levelRun, runsOf};
-ghost use Rattle.entries.specs.Skip.{skip, stopsAt, pageFrom, slotIn};
-ghost use Rattle.entries.specs.Spot.{spotOf, cursorAt, pageAt, upcoming, Standing};
+ghost use Rattle.entries.specs.Levels.{AllInside, levelRun, runsOf};
+ghost use Rattle.entries.specs.Skip.{skip, skipAll, stopsAt, pageFrom, slotIn};
+ghost use Rattle.entries.specs.Spot.{spotOf, cursorAt, pageAt, upcoming, upcomings, Standing, AllStanding};
 ghost use Rattle.geometry.specs.Places.{levelStart, planOf};
 use geometry::Geometry;
 use geometry::Plan;
@@ -164,6 +164,28 @@ pub fn skip_to(words: &[u32], run: Run, from: u64, pair: Pair) -> u64
         slot = 0;
     }
     spot_of(page, slot)
+}
+
+// Four spots, each moved forward to a pair.
+pub fn spots_from(words: &[u32], runs: Runs, spots: Spots, pair: Pair) -> Spots
+    requires { ⌜ AllInside runs (length (now words)) ⌝ }
+    ensures told { λ r. ⌜ upcomings (now (words .entry)) runs r ≡ skipAll pair (upcomings (now (words .entry)) runs spots) ⌝ }
+    ensures standing { λ r. ⌜ AllStanding (now (words .entry)) runs r ⌝ }
+{
+    let run = runs.head;
+    let head = skip_to(words, run, spots.head, pair);
+    let run = runs.first;
+    let first = skip_to(words, run, spots.first, pair);
+    let run = runs.second;
+    let second = skip_to(words, run, spots.second, pair);
+    let run = runs.third;
+    let third = skip_to(words, run, spots.third, pair);
+    Spots {
+        head,
+        first,
+        second,
+        third,
+    }
 }
 
 // The first slot of a page from one on that is an index entry not before a pair, or one past the page's slots.

@@ -5,31 +5,18 @@ use mathlib.Core.Path.{_≡_, ap, sym, _∙_}
 use mathlib.Core.Bool.{Bool, true, false, Bool·beq}
 use mathlib.Core.List.{List, [], _∷_}
 use lib.ListN.{length}
-use lib.Dec.{leb}
-use borrow.Author.Tests.{leb-true}
 use Rattle.slot.specs.declared.Pair.{Pair}
 use Rattle.slot.specs.Pair.{same, least}
 use Rattle.entries.specs.declared.Run.{Run}
 use Rattle.entries.specs.declared.Runs.{Runs}
 use Rattle.entries.specs.declared.Spots.{Spots}
 use Rattle.entries.specs.declared.Entry.{Entry}
-use Rattle.entries.specs.Run.{entry, entriesIn}
-use Rattle.entries.specs.Skip.{skip, skipAll, skip-least}
-use Rattle.entries.specs.Spot.{pageAt, upcoming, upcomings, upcoming-all, upcoming-none}
+use Rattle.entries.specs.Run.{entry}
+use Rattle.entries.specs.Skip.{skip, skipAll}
+use Rattle.entries.specs.Spot.{upcoming, upcomings, from-least}
 use Rattle.kinds.specs.Standing.{decides, decides-here, decides-not, heldFirst, Stands, stands-fails, stands-next}
 
 module _ (w : List ℕ) (run : Run) where
-  -- The first entry stands where the first one not before the least pair does.
-  from-least : (spot next : ℕ) (p : Pair) → p ≡ least → upcoming w run next ≡ skip p (upcoming w run spot) → upcoming w run next ≡ upcoming w run spot
-  from-least spot next p l e = e ∙ ap (λ (p : Pair). skip p (upcoming w run spot)) l ∙ skip-least (upcoming w run spot)
-
-  pub from-first : (next : ℕ) (p : Pair) → p ≡ least → upcoming w run next ≡ skip p (upcoming w run 0) → upcoming w run next ≡ entriesIn w run
-  from-first next p l e = from-least 0 next p l e ∙ upcoming-all w run
-
-  -- A run that has ended there has none.
-  pub none-left : (spot : ℕ) (ended : Bool) → ended ≡ leb (run .pages) (pageAt spot) → ended ≡ true → upcoming w run spot ≡ []
-  none-left spot ended e t = upcoming-none w run spot (leb-true _ _ (sym e ∙ t))
-
   -- What the entry at a spot says of a pair, case by case.
   module _ (spot : ℕ) (p : Pair) (below : Bool) where
     pub told-none : upcoming w run spot ≡ [] → below ≡ decides p (upcoming w run spot) below

@@ -223,35 +223,13 @@ fn stands_over(words: &[u32], top: Run, lower: Runs) -> bool
     while !entries::is_ended(top, spot) {
         let entry = entries::entry_at(words, top, spot);
         let pair = entry.pair;
-        spots = spots_from(words, lower, spots, pair);
+        spots = entries::spots_from(words, lower, spots, pair);
         if agree(entry.normal, held_at(words, lower, spots, pair)) {
             return false;
         }
         spot = entries::skip_to(words, top, spot + 1, least);
     }
     true
-}
-
-// Four spots, each moved forward to a pair.
-fn spots_from(words: &[u32], runs: Runs, spots: Spots, pair: Pair) -> Spots
-    requires { ⌜ AllInside runs (length (now words)) ⌝ }
-    ensures told { λ r. ⌜ upcomings (now (words .entry)) runs r ≡ skipAll pair (upcomings (now (words .entry)) runs spots) ⌝ }
-    ensures standing { λ r. ⌜ AllStanding (now (words .entry)) runs r ⌝ }
-{
-    let run = runs.head;
-    let head = entries::skip_to(words, run, spots.head, pair);
-    let run = runs.first;
-    let first = entries::skip_to(words, run, spots.first, pair);
-    let run = runs.second;
-    let second = entries::skip_to(words, run, spots.second, pair);
-    let run = runs.third;
-    let third = entries::skip_to(words, run, spots.third, pair);
-    Spots {
-        head,
-        first,
-        second,
-        third,
-    }
 }
 
 // Whether the topmost entry of a pair at four spots holds it.

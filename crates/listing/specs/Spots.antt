@@ -7,7 +7,6 @@ use mathlib.Core.List.{List, [], _∷_}
 use mathlib.Core.Option.{Option, none, some}
 use lib.ListN.{length, set}
 use lib.Dec.{leb}
-use borrow.Author.Tests.{leb-true}
 use Rattle.geometry.specs.declared.Geometry.{Geometry}
 use Rattle.geometry.specs.Geometry.{InRange}
 use Rattle.slot.specs.declared.Pair.{Pair}
@@ -24,8 +23,8 @@ use Rattle.entries.specs.declared.Entry.{Entry}
 use Rattle.entries.specs.Run.{entry, few-in}
 use Rattle.entries.specs.Levels.{AllInside, runsOf, treeIn, by-levels}
 use Rattle.entries.specs.Ascending.{levelsAscend, all-from-ascending}
-use Rattle.entries.specs.Skip.{skip, skipAll, skip-least}
-use Rattle.entries.specs.Spot.{pageAt, upcoming, upcomings, upcoming-none}
+use Rattle.entries.specs.Skip.{skip, skipAll}
+use Rattle.entries.specs.Spot.{pageAt, upcoming, upcomings, from-least, none-left}
 use Rattle.listing.specs.declared.Least.{Least}
 use Rattle.listing.specs.declared.Least.the-variants.{Of, Empty}
 use Rattle.listing.specs.declared.Listed.{Listed}
@@ -45,16 +44,13 @@ found Empty = none
 module _ (w : List ℕ) (run : Run) (spot : ℕ) where
   -- A run that has ended at a spot: the least is that below, and the spot stays.
   module _ (ended : Bool) (is : ended ≡ leb (run .pages) (pageAt spot)) (yes : ended ≡ true) where
-    none-left : upcoming w run spot ≡ []
-    none-left = upcoming-none w run spot (leb-true _ _ (sym is ∙ yes))
-
     pub lower-none : (l : Option Indexed) → l ≡ lower (upcoming w run spot) l
     unfolding lower
-    lower-none l = rw none-left
+    lower-none l = rw (none-left w run spot ended is yes)
 
     pub past-none : (p : Pair) → upcoming w run spot ≡ past p (upcoming w run spot)
     unfolding past
-    past-none p = rw none-left
+    past-none p = rw (none-left w run spot ended is yes)
 
   -- An entry at a spot, and the least of the levels below it; and the spot past it, if it is of a pair.
   module _ (e : Entry) (here : entry e ∷ upcoming w run (spot + 1) ≡ upcoming w run spot) where
@@ -69,7 +65,7 @@ module _ (w : List ℕ) (run : Run) (spot : ℕ) where
     pub past-same : (p q : Pair) (next : ℕ) → same p (e .pair) ≡ true → q ≡ least → upcoming w run next ≡ skip q (upcoming w run (spot + 1)) →
         upcoming w run next ≡ past p (upcoming w run spot)
     past-same p q next s l on =
-        on ∙ ap (λ (q : Pair). skip q (upcoming w run (spot + 1))) l ∙ skip-least (upcoming w run (spot + 1)) ∙
+        from-least w run (spot + 1) next q l on ∙
         sym (past-here p (entry e) (upcoming w run (spot + 1)) s) ∙ ap (past p) here
 
     pub past-stays : (p : Pair) → same p (e .pair) ≡ false → upcoming w run spot ≡ past p (upcoming w run spot)

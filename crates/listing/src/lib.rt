@@ -147,20 +147,13 @@ fn spots_at(words: &[u32], runs: Runs, pair: Pair) -> Spots
     ensures told { λ r. ⌜ upcomings (now (words .entry)) runs r ≡ skipAll pair (treeIn (now (words .entry)) runs) ⌝ }
     ensures standing { λ r. ⌜ AllStanding (now (words .entry)) runs r ⌝ }
 {
-    let run = runs.head;
-    let head = entries::skip_to(words, run, 0, pair);
-    let run = runs.first;
-    let first = entries::skip_to(words, run, 0, pair);
-    let run = runs.second;
-    let second = entries::skip_to(words, run, 0, pair);
-    let run = runs.third;
-    let third = entries::skip_to(words, run, 0, pair);
-    Spots {
-        head,
-        first,
-        second,
-        third,
-    }
+    let begin = Spots {
+        head: 0,
+        first: 0,
+        second: 0,
+        third: 0,
+    };
+    entries::spots_from(words, runs, begin, pair)
 }
 
 // Four spots, each past its entry of a pair.

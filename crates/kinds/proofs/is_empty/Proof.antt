@@ -1,7 +1,7 @@
 -- `is_empty` tells that a run has no entries where none is met. Assumes nothing.
 use mathlib.Core.Path.{sym, _∙_}
 use denote.Ref.{now}
-use Rattle.kinds.specs.Spots.{from-first, none-left}
+use Rattle.entries.specs.Spot.{from-first, none-left}
 use borrow.Author.Needs.{needs}
 use Rattle.kinds.proofs.is_empty.Statement.{statement}
 use Rattle.kinds.proofs.is_empty.Tie as tie

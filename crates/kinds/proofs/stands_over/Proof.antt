@@ -9,7 +9,8 @@ use Rattle.entries.specs.Run.{entriesIn}
 use Rattle.entries.specs.Levels.{treeIn}
 use Rattle.entries.specs.Spot.{upcoming, Standing, upcomings, upcomings-all}
 use Rattle.kinds.specs.Standing.{standsOver, Stands, stands-begin, stands-done}
-use Rattle.kinds.specs.Spots.{from-first, none-left, wrong-here, right-here, fewer-on}
+use Rattle.entries.specs.Spot.{from-first, none-left}
+use Rattle.kinds.specs.Spots.{wrong-here, right-here, fewer-on}
 use borrow.Author.Needs.{needs}
 use Rattle.kinds.proofs.stands_over.Statement.{statement}
 use Rattle.kinds.proofs.stands_over.Tie as tie

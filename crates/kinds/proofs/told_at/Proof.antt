@@ -3,7 +3,8 @@ use mathlib.Core.Path.{sym, _∙_}
 use denote.Ref.{now}
 use borrow.Author.Tests.{leb-false}
 use Rattle.laws.specs.Tests.{told-yes}
-use Rattle.kinds.specs.Spots.{none-left, told-none, told-same, told-other}
+use Rattle.entries.specs.Spot.{none-left}
+use Rattle.kinds.specs.Spots.{told-none, told-same, told-other}
 use borrow.Author.Needs.{needs}
 use Rattle.kinds.proofs.told_at.Statement.{statement}
 use Rattle.kinds.proofs.told_at.Tie as tie

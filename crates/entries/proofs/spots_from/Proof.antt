@@ -1,9 +1,9 @@
 -- `spots_from` moves four spots, from what `skip_to` ensures. Assumes nothing.
 use Rattle.entries.specs.Spot.{upcomings}
 use Rattle.entries.specs.Skip.{skipAll}
 use borrow.Author.Needs.{needs}
-use Rattle.kinds.proofs.spots_from.Statement.{statement}
-use Rattle.kinds.proofs.spots_from.Tie as tie
+use Rattle.entries.proofs.spots_from.Statement.{statement}
+use Rattle.entries.proofs.spots_from.Tie as tie
 
 skip-to-requires : tie.Need-skip-to-requires
 skip-to-requires c κs = search needs
