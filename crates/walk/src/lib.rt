@@ -2,7 +2,7 @@
 ghost use Prim.Native.Nat.{_+_, _-_, _*_, _<_, _≤_, min};
 ghost use mathlib.Core.Path.{_≡_};
 ghost use mathlib.Core.Bool.{true};
-ghost use lib.ListN.{length, getD};
+ghost use lib.ListN.{length};
 ghost use Rattle.geometry.specs.Geometry.{room};
 ghost use Rattle.geometry.specs.Places.{pagePlace};
 ghost use Rattle.rules.specs.Level.{fenceKind};
@@ -14,6 +14,7 @@ ghost use Rattle.walk.specs.Walk.{walked, walkFrom};
 ghost use Rattle.geometry.specs.Lent.{Lent};
 use geometry::Geometry;
 use geometry::Plan;
+use geometry::at_level;
 use laws::both;
 use laws::either;
 use page::Met;
@@ -96,9 +97,8 @@ pub fn directory_right(store: &[u32], g: Geometry, plan: Plan) -> bool
     requires { ⌜ Lent g plan (now store) ⌝ }
     ensures { λ r. ⌜ r ≡ directoryRight g (now (store .entry)) ⌝ }
 {
-    let bottom = (g.levels - 1) as usize;
     let capacities = plan.capacities;
-    let most = of_level(capacities, bottom);
+    let most = at_level(capacities, g.levels - 1);
     let first = pages_right(store, g, plan, 1);
     let second = pages_right(store, g, plan, 2);
     let third = pages_right(store, g, plan, 3);
@@ -116,20 +116,6 @@ fn count_right(store: &[u32], g: Geometry, level: usize, count: u32) -> bool
     both(count <= 21, either(1 <= count, alone))
 }
 
-// Of four numbers, one for each level, that of a lower level. Its places are constant, so that the four need not be copied.
-fn of_level(four: [u32; 4], level: usize) -> u32
-    requires { ⌜ (1 ≤ level) × (level ≤ 3) ⌝ }
-    ensures { λ r. ⌜ r ≡ getD four level 0 ⌝ }
-{
-    if level == 1 {
-        return four[1];
-    }
-    if level == 2 {
-        return four[2];
-    }
-    four[3]
-}
-
 // The first word of a page of a lower level.
 pub fn page_place(store: &[u32], g: Geometry, plan: Plan, level: usize, page: u32) -> usize
     requires { ⌜ Lent g plan (now store) ⌝ }
@@ -138,7 +124,7 @@ pub fn page_place(store: &[u32], g: Geometry, plan: Plan, level: usize, page: u3
     ensures inside { λ r. ⌜ r + 64 ≤ length (now (store .entry)) ⌝ }
 {
     let starts = plan.starts;
-    let start = of_level(starts, level);
+    let start = at_level(starts, level as u32);
     start as usize + 64 * (page as usize)
 }
 

@@ -6,14 +6,11 @@ use borrow.Author.Needs.{needs}
 use Rattle.walk.proofs.directory_right.Statement.{statement}
 use Rattle.walk.proofs.directory_right.Tie as tie
 
-sub-bottom : tie.Need-sub-bottom
-sub-bottom c = search needs
+sub-at-level : tie.Need-sub-at-level
+sub-at-level c = search needs
 
-cast-bottom : tie.Need-cast-bottom
-cast-bottom c = search needs
-
-of-level-requires : tie.Need-of-level-requires
-of-level-requires c κs = search needs
+at-level-requires : tie.Need-at-level-requires
+at-level-requires c κs = search needs
 
 pages-right-requires : tie.Need-pages-right-requires
 pages-right-requires c κs = search needs
@@ -47,15 +44,14 @@ unfolding directoryRight
 returns c =
     let a = c .before .before .before .before .before .before .before .before .before .before .before .before .before .args in
     let pre = c .before .before .before .before .before .before .before .before .before .before .before .before .before .pre in
-    rw (c .both4 .ensures, c .before .before .both3 .ensures, c .before .before .before .before .both2 .ensures, c .before .before .before .before .before .both .ensures, c .before .before .before .before .before .before .pages-right3 .ensures, c .before .before .before .before .before .before .before .pages-right2 .ensures, c .before .before .before .before .before .before .before .before .pages-right .ensures, c .before .before .before .before .before .before .before .before .before .of-level .ensures, ← most-at (a .g) (a .plan) (a .store .now) pre, all-three (pagesRight (a .g) (a .store .now)) 1 2 3)
+    rw (c .both4 .ensures, c .before .before .both3 .ensures, c .before .before .before .before .both2 .ensures, c .before .before .before .before .before .both .ensures, c .before .before .before .before .before .before .pages-right3 .ensures, c .before .before .before .before .before .before .before .pages-right2 .ensures, c .before .before .before .before .before .before .before .before .pages-right .ensures, c .before .before .before .before .before .before .before .before .before .at-level .ensures, ← most-at (a .g) (a .plan) (a .store .now) pre, all-three (pagesRight (a .g) (a .store .now)) 1 2 3)
 
 pub directory-right-spec : {M : Type 1} → statement M
 directory-right-spec =
     tie.close
     (tie.spec
-    sub-bottom
-    cast-bottom
-    of-level-requires
+    sub-at-level
+    at-level-requires
     pages-right-requires
     pages-right-requires-2
     pages-right-requires-3

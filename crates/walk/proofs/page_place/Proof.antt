@@ -5,8 +5,11 @@ use borrow.Author.Needs.{needs}
 use Rattle.walk.proofs.page_place.Statement.{statement}
 use Rattle.walk.proofs.page_place.Tie as tie
 
-of-level-requires : tie.Need-of-level-requires
-of-level-requires c κs = search needs
+cast-at-level : tie.Need-cast-at-level
+cast-at-level c = search needs
+
+at-level-requires : tie.Need-at-level-requires
+at-level-requires c κs = search needs
 
 cast-result : tie.Need-cast-result
 cast-result c = search needs
@@ -18,13 +21,13 @@ add-result : tie.Need-add-result
 add-result c =
     let a = c .before .before .before .args in
     let h = c .before .before .before .pre .1 in
-    omega (arith, c .of-level .ensures, page-at (a .g) (a .plan) (a .store .now) (c .before .before .before .pre .0) (a .level) (a .page) (h .0) (h .1) (h .2) .1)
+    omega (arith, c .at-level .ensures, page-at (a .g) (a .plan) (a .store .now) (c .before .before .before .pre .0) (a .level) (a .page) (h .0) (h .1) (h .2) .1)
 
 returns : tie.Need-returns
 returns c =
     let a = c .before .before .before .args in
     let h = c .before .before .before .pre .1 in
-    rw (c .of-level .ensures) (page-at (a .g) (a .plan) (a .store .now) (c .before .before .before .pre .0) (a .level) (a .page) (h .0) (h .1) (h .2))
+    rw (c .at-level .ensures) (page-at (a .g) (a .plan) (a .store .now) (c .before .before .before .pre .0) (a .level) (a .page) (h .0) (h .1) (h .2))
 
 pub page-place-spec : {M : Type 1} → statement M
-page-place-spec = tie.close (tie.spec of-level-requires cast-result mul-result add-result returns)
+page-place-spec = tie.close (tie.spec cast-at-level at-level-requires cast-result mul-result add-result returns)
