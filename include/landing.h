@@ -68,10 +68,10 @@
  *
  * STACK. Measured, not proved, for x86-64 as `rt staticlib landing` builds it, in bytes below the caller's frame:
  *
- *     landing_put, landing_drop   3008     in a merge from level 0 down to level 3; without one less than half of it
- *     landing_list                1672
- *     landing_check               1256
- *     landing_ask                  528
+ *     landing_put, landing_drop   1944     in a merge from level 0 down to level 3; without one about half of it
+ *     landing_list                1360
+ *     landing_check               1008
+ *     landing_ask                  352
  *     landing_format               152
  */
 #ifndef LANDING_H
