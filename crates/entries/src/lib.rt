@@ -143,7 +143,7 @@ pub fn index_of(entry: Entry) -> Slot
     }
 }
 
-// Where an index entry stands from which on none is before a pair: the first at or after a spot, or the end of the run.
+// Where the first index entry at or after a spot stands that is not before a pair, or the end of the run.
 pub fn skip_to(words: &[u32], run: Run, from: u64, pair: Pair) -> u64
     requires { ⌜ Inside run (length (now words)) ⌝ }
     ensures told { λ r. ⌜ upcoming (now (words .entry)) run r ≡ skip pair (upcoming (now (words .entry)) run from) ⌝ }

@@ -181,7 +181,7 @@ fn top_stands(words: &[u32], runs: Runs) -> bool
     stands_over(words, top, lower)
 }
 
-// Whether four runs have no entries.
+// Whether four runs have no entries. Only a yes is promised to be right: after a no the level is tested entry by entry.
 fn all_empty(words: &[u32], runs: Runs) -> bool
     requires { ⌜ AllInside runs (length (now words)) ⌝ }
     ensures { λ r. ⌜ (r ≡ true → treeIn (now (words .entry)) runs ≡ noEntries) ⌝ }

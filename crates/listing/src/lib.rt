@@ -141,7 +141,7 @@ fn lesser(above: Entry, below: Entry) -> Entry
     below
 }
 
-// The spots of four runs from which on no entry is before a pair.
+// The spots of the first entries of four runs that are not before a pair.
 fn spots_at(words: &[u32], runs: Runs, pair: Pair) -> Spots
     requires { ⌜ AllInside runs (length (now words)) ⌝ }
     ensures told { λ r. ⌜ upcomings (now (words .entry)) runs r ≡ skipAll pair (treeIn (now (words .entry)) runs) ⌝ }
