@@ -1,4 +1,4 @@
-//! The landing index's second program: the paper (01-scope.md) on plain `Vec`s.
+//! The landing index's second program: the paper (docs/RULES.md) on plain `Vec`s.
 //!
 //! It shares nothing with the proved implementation and is meant to be obviously right,
 //! not fast. Read the modules in this order.

@@ -1,6 +1,7 @@
 //! The second program's command line.
 
 use std::io::{Read, Write};
+use std::path::Path;
 use std::process::ExitCode;
 
 use second::damage::damaged;
@@ -10,7 +11,7 @@ use second::plan::{Plan, LIST};
 use second::random::Random;
 use second::script::Script;
 use second::variant::Variant;
-use second::vectors::{self, Case, Tally};
+use second::vectors::{self, Case, Compared};
 use second::{cases, sheet, sheets};
 
 /// What is printed when a command line is not understood.
@@ -22,7 +23,7 @@ const USAGE: &str = "usage:
   second sheets FOLDER
   second sequences [--seed S] [--calls N] H,k,l...
   second damaged [--seed S] [--cases N]
-  second script [--seed S] [--cases N] FOLDER FILE...
+  second script [--seed S] [--cases N] FOLDER VECTORS
   second replay [--build NAME] [--seed S] [--calls N] [--every E] [--damage D] H,k,l...
   second replays FOLDER";
 
@@ -30,9 +31,6 @@ const USAGE: &str = "usage:
 const OPTIONS: [&str; 6] = [
     "--build", "--seed", "--calls", "--cases", "--every", "--damage",
 ];
-
-/// The longest store that a script takes over, which keeps a script small.
-const SCRIPT_WORDS: usize = 260;
 
 /// The differences that `vectors` shows at most.
 const SHOWN: usize = 5;
@@ -73,21 +71,21 @@ fn main() -> ExitCode {
 /// Runs vector files and shows the first differences.
 fn run_vectors(line: &Line) -> Result<bool, String> {
     let variant = line.option("--build", Variant::Right)?;
-    let mut tally = Tally::default();
+    let mut compared = Compared::default();
     for file in &line.rest {
         let text = std::fs::read_to_string(file).map_err(|e| format!("{file}: {e}"))?;
-        vectors::run(variant, &text, &mut tally);
+        vectors::run(variant, &text, &mut compared);
     }
-    for difference in tally.differences.iter().take(SHOWN) {
+    for difference in compared.differences.iter().take(SHOWN) {
         println!("{difference}");
     }
     println!(
         "{} cases, {} calls, {} differences",
-        tally.cases,
-        tally.calls,
-        tally.differences.len(),
+        compared.cases,
+        compared.calls,
+        compared.differences.len(),
     );
-    Ok(tally.differences.is_empty() && tally.cases > 0)
+    Ok(compared.differences.is_empty() && compared.cases > 0)
 }
 
 /// Runs the bench table, one line a case.
@@ -162,23 +160,15 @@ fn print_damaged(line: &Line) -> Result<bool, String> {
     Ok(true)
 }
 
-/// Writes a replay script of the files' cases and of damaged ones, as a folder's stdin, and the
-/// lines that it must print, as its stdout.
+/// Writes a replay script of a folder's vectors and of damaged stores, as another folder's stdin, and
+/// the lines that it must print, as its stdout.
 fn write_script(line: &Line) -> Result<bool, String> {
-    let (folder, files) = line.rest.split_first().ok_or(USAGE)?;
-    let mut cases = Vec::new();
-    for file in files {
-        let text = std::fs::read_to_string(file).map_err(|e| format!("{file}: {e}"))?;
-        cases.extend(vectors::cases(&text));
-    }
-    let mut random = Random::new(line.option("--seed", 1)?);
-    for number in 0..line.option("--cases", 60)? {
-        cases.push(damaged(&mut random, number));
-    }
-    let mut script = Script::default();
-    for case in cases.iter().filter(|case| case.store.len() <= SCRIPT_WORDS) {
-        script.add(case);
-    }
+    let [folder, vectors] = &line.rest[..] else {
+        return Err(USAGE.to_string());
+    };
+    let texts = vectors::texts(Path::new(vectors))?;
+    let (seed, cases) = (line.option("--seed", 1)?, line.option("--cases", 60)?);
+    let script = Script::of(Variant::Right, &texts, seed, cases);
     let lines: String = script.lines.iter().map(|l| format!("{l}\n")).collect();
     write_run(folder, &script.numbers, &lines)
 }

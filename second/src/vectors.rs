@@ -1,11 +1,17 @@
-//! The vector format: cases of calls with the exact words that they must give.
+//! The vector format: cases of calls with the exact words that they must give. `vectors/README.md`
+//! describes its lines.
 //!
 //! A case is run by writing it again, from its store and its calls alone, and comparing lines.
+
+use std::path::Path;
 
 use crate::call::{numbered, perform, Call};
 use crate::geometry::ONES;
 use crate::slot::Pair;
 use crate::variant::Variant;
+
+/// The vector files of a folder.
+const FILES: [&str; 2] = ["damaged.txt", "sequences.txt"];
 
 /// A case: what its first line says, its store before the first call, and its calls.
 #[derive(Clone, Debug)]
@@ -17,24 +23,33 @@ pub struct Case {
 
 /// What running vector files came to.
 #[derive(Clone, Debug, Default)]
-pub struct Tally {
+pub struct Compared {
     pub cases: usize,
     pub calls: usize,
     pub differences: Vec<String>,
 }
 
+/// The texts of a folder's vector files.
+pub fn texts(folder: &Path) -> Result<Vec<String>, String> {
+    let read = |name: &&str| {
+        let path = folder.join(name);
+        std::fs::read_to_string(&path).map_err(|e| format!("{}: {e}", path.display()))
+    };
+    FILES.iter().map(read).collect()
+}
+
 /// Runs every case of a vector file's text, and adds what it came to.
-pub fn run(variant: Variant, text: &str, tally: &mut Tally) {
+pub fn run(variant: Variant, text: &str, compared: &mut Compared) {
     let lines: Vec<&str> = text.lines().collect();
     let starts: Vec<usize> = (0..lines.len())
         .filter(|at| lines[*at].starts_with("case "))
         .collect();
     if starts.first() != Some(&0) {
-        tally.differences.push("no case at line 1".to_string());
+        compared.differences.push("no case at line 1".to_string());
     }
     for (at, start) in starts.iter().enumerate() {
         let end = starts.get(at + 1).copied().unwrap_or(lines.len());
-        run_case(variant, &lines[*start..end], start + 1, tally);
+        run_case(variant, &lines[*start..end], start + 1, compared);
     }
 }
 
@@ -46,20 +61,20 @@ pub fn cases(text: &str) -> Vec<Case> {
 }
 
 /// Runs the case of these lines, the first of which has this number in its file.
-fn run_case(variant: Variant, lines: &[&str], number: usize, tally: &mut Tally) {
-    tally.cases += 1;
+fn run_case(variant: Variant, lines: &[&str], number: usize, compared: &mut Compared) {
+    compared.cases += 1;
     let Some(case) = parse(lines) else {
         let difference = format!("line {number}: not a case of the vector format");
-        tally.differences.push(difference);
+        compared.differences.push(difference);
         return;
     };
-    tally.calls += case.calls.len();
+    compared.calls += case.calls.len();
     let ours = write(variant, &case);
     for at in 0..lines.len().max(ours.len()) {
         let wanted = lines.get(at).map_or("(no line)", |line| line.trim_end());
         let given = ours.get(at).map_or("(no line)", |line| line.trim_end());
         if wanted != given {
-            tally.differences.push(format!(
+            compared.differences.push(format!(
                 "line {}, {}:\n  wanted {wanted}\n  given  {given}",
                 number + at,
                 case.title,

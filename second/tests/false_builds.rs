@@ -6,15 +6,15 @@ use second::beside::Beside;
 use second::geometry::Geometry;
 use second::replay::Replay;
 use second::variant::{Variant, FALSE_BUILDS};
-use second::vectors::{run, Tally};
+use second::vectors::{run, Compared};
 
 /// The differences of a build from the vectors.
 fn differences(variant: Variant) -> usize {
-    let mut tally = Tally::default();
+    let mut compared = Compared::default();
     for text in common::vector_texts() {
-        run(variant, &text, &mut tally);
+        run(variant, &text, &mut compared);
     }
-    tally.differences.len()
+    compared.differences.len()
 }
 
 /// The first call of a replay after which a build differs from the right one.

@@ -1,9 +1,10 @@
 //! What several tests use.
 #![allow(dead_code)]
 
-use std::path::PathBuf;
+use std::path::Path;
 
 use second::geometry::Geometry;
+use second::vectors;
 
 /// The geometries that long sequences must cover.
 pub const GEOMETRIES: [&str; 7] = [
@@ -17,17 +18,6 @@ pub fn geometry(text: &str) -> Geometry {
 
 /// The texts of the vector files.
 pub fn vector_texts() -> Vec<String> {
-    let here = PathBuf::from(env!("CARGO_MANIFEST_DIR"));
-    let folders = [here.join("../../shared/vectors"), here.join("vectors")];
-    let folder = folders
-        .iter()
-        .find(|folder| folder.join("sequences.txt").is_file())
-        .expect("no vectors: neither ../../shared/vectors nor second/vectors has sequences.txt");
-    ["sequences.txt", "damaged.txt"]
-        .iter()
-        .map(|name| {
-            let file = folder.join(name);
-            std::fs::read_to_string(&file).unwrap_or_else(|e| panic!("vector file {name}: {e}"))
-        })
-        .collect()
+    let folder = Path::new(env!("CARGO_MANIFEST_DIR")).join("vectors");
+    vectors::texts(&folder).unwrap_or_else(|message| panic!("{message}"))
 }
