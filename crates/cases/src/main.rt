@@ -6,11 +6,11 @@ use geometry::HEAD_START;
 use geometry::PAGE_COUNTS;
 use geometry::PAGE_WORDS;
 use geometry::SLOT_WORDS;
-use index::Asked;
-use index::Changed;
-use index::Edited;
-use index::Formatted;
-use index::Shown;
+use index::EditReply;
+use index::ask_reply;
+use index::edit_reply;
+use index::format_reply;
+use index::list_reply;
 use libc::STDOUT_FILENO;
 use slot::Kind;
 use slot::Pair;
@@ -156,18 +156,14 @@ fn case_11(store: &mut [u32], work: &mut [u32]) {
 // The case's number, and the store of the empty set.
 fn begin(case: u32, store: &mut [u32], head: u32, ratio: u32, levels: u32) {
     number_line(b"case ", case);
-    let reply = match index::format(
+    let reply = format_reply(index::format(
         store,
         Geometry {
             head,
             ratio,
             levels,
         },
-    ) {
-        Formatted::Done => 0,
-        Formatted::Range => 1,
-        Formatted::Length => 5,
-    };
+    ));
     print_number(b"format ", head);
     print_number(b",", ratio);
     print_number(b",", levels);
@@ -179,19 +175,19 @@ fn edit_all(store: &mut [u32], work: &mut [u32], op: Op, first: u32, last: u32, 
     let mut pages = 0;
     let mut badge = first;
     while badge < last {
-        let changed = edit(store, work, op, badge, floor);
-        pages = std::num::wrapping_add_u32(pages, pages_of(changed));
+        let reply = edit(store, work, op, badge, floor);
+        pages = std::num::wrapping_add_u32(pages, pages_of(reply));
         badge += 1;
     }
-    let changed = edit(store, work, op, last, floor);
+    let reply = edit(store, work, op, last, floor);
     edits_line(
         op,
         first,
         last,
         floor,
-        std::num::wrapping_add_u32(pages, pages_of(changed)),
+        std::num::wrapping_add_u32(pages, pages_of(reply)),
     );
-    changed_line(changed);
+    edit_line(reply);
 }
 
 fn edits_line(op: Op, first: u32, last: u32, floor: u32, pages: u32) {
@@ -204,43 +200,31 @@ fn edits_line(op: Op, first: u32, last: u32, floor: u32, pages: u32) {
     print_number(b" wrote ", pages);
 }
 
-fn edit(store: &mut [u32], work: &mut [u32], op: Op, badge: u32, floor: u32) -> Changed {
+fn edit(store: &mut [u32], work: &mut [u32], op: Op, badge: u32, floor: u32) -> EditReply {
     match op {
-        Op::Put => index::put(store, work, pair(badge, floor)),
-        Op::Drop => index::drop(store, work, pair(badge, floor)),
+        Op::Put => edit_reply(index::put(store, work, pair(badge, floor))),
+        Op::Drop => edit_reply(index::drop(store, work, pair(badge, floor))),
     }
 }
 
-fn pages_of(changed: Changed) -> u32 {
-    let answer = changed.answer;
-    match answer {
-        Edited::Done(_, _, pages) => pages,
-        _ => 0,
-    }
+// The pages written, which are the third value. A refusal has 0 there.
+fn pages_of(reply: EditReply) -> u32 {
+    reply.values[2]
 }
 
-fn changed_line(changed: Changed) {
-    let answer = changed.answer;
-    let entries = changed.entries;
-    match answer {
-        Edited::Done(live, deepest, pages) => done_line(live, deepest, pages, entries),
-        Edited::Range => refusal_line(1, 0),
-        Edited::Length => refusal_line(5, 0),
-        Edited::Fault(level) => refusal_line(6, level),
-        Edited::Held => refusal_line(2, 0),
-        Edited::Missing => refusal_line(3, 0),
-        Edited::Full => refusal_line(4, 0),
+fn edit_line(reply: EditReply) {
+    let values = reply.values;
+    if reply.number != 0 {
+        refusal_line(reply.number, values[0]);
+        return;
     }
-}
-
-fn done_line(live: u32, deepest: u32, pages: u32, entries: [u32; 4]) {
-    print_number(b": reply 0 live ", live);
-    print_number(b" deepest ", deepest);
-    print_number(b" pages ", pages);
-    print_number(b" entries ", entries[0]);
-    print_number(b" ", entries[1]);
-    print_number(b" ", entries[2]);
-    number_line(b" ", entries[3]);
+    print_number(b": reply 0 live ", values[0]);
+    print_number(b" deepest ", values[1]);
+    print_number(b" pages ", values[2]);
+    print_number(b" entries ", values[3]);
+    print_number(b" ", values[4]);
+    print_number(b" ", values[5]);
+    number_line(b" ", values[6]);
 }
 
 fn refusal_line(reply: u32, level: u32) {
@@ -271,29 +255,27 @@ fn ask_damaged(store: &mut [u32], badge: u32, place: usize) {
 fn ask_line(store: &[u32], badge: u32, floor: u32) {
     print_number(b"ask ", badge);
     print_number(b" at ", floor);
-    match index::ask(store, pair(badge, floor)) {
-        Asked::Answer(held, level) => {
-            print_number(b": reply 0 held ", if held { 1 } else { 0 });
-            number_line(b" level ", level);
-        }
-        Asked::Range => refusal_line(1, 0),
-        Asked::Length => refusal_line(5, 0),
-        Asked::Fault(level) => refusal_line(6, level),
+    let reply = ask_reply(index::ask(store, pair(badge, floor)));
+    let values = reply.values;
+    if reply.number != 0 {
+        refusal_line(reply.number, values[0]);
+        return;
     }
+    print_number(b": reply 0 held ", values[0]);
+    number_line(b" level ", values[1]);
 }
 
 fn list_line(store: &[u32], first: u32, last: u32, slice: &mut [u32]) {
     print_number(b"list ", first);
     print_number(b" to ", last);
-    match index::list(store, pair(first, 0), pair(last, 0), slice) {
-        Shown::Pairs(pairs, mark) => {
-            print_number(b": reply 0 pairs ", pairs);
-            number_line(b" mark ", mark);
-        }
-        Shown::Range => refusal_line(1, 0),
-        Shown::Length => refusal_line(5, 0),
-        Shown::Fault(level) => refusal_line(6, level),
+    let reply = list_reply(index::list(store, pair(first, 0), pair(last, 0), slice));
+    let values = reply.values;
+    if reply.number != 0 {
+        refusal_line(reply.number, values[0]);
+        return;
     }
+    print_number(b": reply 0 pairs ", values[0]);
+    number_line(b" mark ", values[1]);
 }
 
 fn print_words(words: &[u32]) {

@@ -5,12 +5,13 @@ use mathlib.Core.Bool.{Bool, true, false, not, cond, _&&_}
 use mathlib.Core.List.{List, [], _∷_}
 use lib.ListN.{length, getD, set, replicate}
 use lib.Dec.{leb}
+use Rattle.fault.specs.declared.Fault.{Fault}
 use Rattle.geometry.specs.declared.Geometry.{Geometry}
 use Rattle.geometry.specs.Places.{liveWord, erased}
 use Rattle.rules.specs.Tree.{Entry}
 use Rattle.rules.specs.Merging.{edit, entries}
 use Rattle.rules.specs.Store.{writing}
-use Rattle.rules.specs.Sound.{headSlots, entriesOf, treeOf, Fault, sound, faultAt, fault}
+use Rattle.rules.specs.Sound.{headSlots, entriesOf, treeOf, Judged, sound, faultAt, fault}
 use Rattle.edit.specs.Head.{entryAdded, entryRemoved}
 use Rattle.good.specs.Edit.{liveAfter}
 use Rattle.edited.specs.Reach.{reach}
@@ -19,7 +20,7 @@ use Rattle.change.specs.declared.Outcome.{Outcome}
 use Rattle.change.specs.declared.Outcome.the-variants.{Done}
 use Rattle.change.specs.declared.Outcome.the-variants.{Fault as Faulty}
 
--- The head edited behind its first slots, so many: the last of them goes where it is the pair's own entry, else the entry comes behind them.
+-- The head edited after its first `behind` slots: the last of them goes where it is the pair's own entry, else the entry comes after them.
 -- Live goes with it.
 unfoldable pub toggledBehind : Entry → ℕ → Bool → List ℕ → List ℕ
 toggledBehind e behind own w = cond own (entryRemoved (behind - 1) w) (entryAdded e behind w)
@@ -38,7 +39,7 @@ fillsHead g w own = not own && leb (g .head) (suc (length (entriesOf (headSlots 
 -- What a change leaves: its fault or none; the live pairs, the deepest level merged into, the pages written and the four counts of entries;
 -- the words of the store and of the work area.
 pub record Changed : Type 0 where
-  pub fault : Fault
+  pub fault : Judged
   pub values : List ℕ
   pub store : List ℕ
   pub work : List ℕ
@@ -50,8 +51,8 @@ changedHead g e own w work =
     record { fault = sound; values = liveAfter (e .normal) (getD w liveWord 0) ∷ 0 ∷ 0 ∷ entries (treeOf g v); store = v; work = work }
 
 -- It is full: a store with a fault stays as it is, and a sound one is the writing of the state that the rules give. The work area is unused then.
-unfoldable pub stayed : ℕ → List ℕ → List ℕ → Changed
-stayed i w work = record { fault = faultAt i; values = 0 ∷ 0 ∷ 0 ∷ 0 ∷ 0 ∷ 0 ∷ 0 ∷ []; store = w; work = work }
+unfoldable pub stayed : Fault → List ℕ → List ℕ → Changed
+stayed f w work = record { fault = faultAt f; values = 0 ∷ 0 ∷ 0 ∷ 0 ∷ 0 ∷ 0 ∷ 0 ∷ []; store = w; work = work }
 
 unfoldable pub changedTree : Geometry → Entry → List ℕ → List ℕ → Changed
 changedTree g e w work =
@@ -61,19 +62,19 @@ changedTree g e w work =
     record { fault = sound; values = live ∷ s .deepest ∷ length (s .written) ∷ entries (treeOf g v); store = v; work = replicate (length work) erased }
 
 unfoldable pub mergedChange : Geometry → Entry → List ℕ → List ℕ → Changed
-mergedChange g e w work = elim (fault g w) [ sound ↦ changedTree g e w work | faultAt i ↦ stayed i w work ]
+mergedChange g e w work = elim (fault g w) [ sound ↦ changedTree g e w work | faultAt f ↦ stayed f w work ]
 
 unfoldable pub changeOf : Geometry → Entry → Bool → List ℕ → List ℕ → Changed
 changeOf g e own w work = elim (fillsHead g w own) [ true ↦ mergedChange g e w work | false ↦ changedHead g e own w work ]
 
 -- What the code returns, with the words that it leaves.
-abbrev pub outcomeFault : Outcome → Fault
+abbrev pub outcomeFault : Outcome → Judged
 outcomeFault (Done live deepest pages) = sound
-outcomeFault (Faulty i) = faultAt i
+outcomeFault (Faulty f) = faultAt f
 
 abbrev pub outcomeValues : Outcome → List ℕ → List ℕ
 outcomeValues (Done live deepest pages) counts = live ∷ deepest ∷ pages ∷ counts
-outcomeValues (Faulty i) counts = 0 ∷ 0 ∷ 0 ∷ counts
+outcomeValues (Faulty f) counts = 0 ∷ 0 ∷ 0 ∷ counts
 
 abbrev pub told : Report → List ℕ → List ℕ → Changed
 told c w work = record { fault = outcomeFault (c .outcome); values = outcomeValues (c .outcome) (c .entries); store = w; work = work }
@@ -82,8 +83,8 @@ told c w work = record { fault = outcomeFault (c .outcome); values = outcomeValu
 unfoldable pub doneOn : Geometry → List ℕ → ℕ → ℕ → Report
 doneOn g w deepest pages = record { outcome = Done (getD w liveWord 0) deepest pages; entries = entries (treeOf g w) }
 
-unfoldable pub faultOn : ℕ → Report
-faultOn i = record { outcome = Faulty i; entries = 0 ∷ 0 ∷ 0 ∷ 0 ∷ [] }
+unfoldable pub faultOn : Fault → Report
+faultOn f = record { outcome = Faulty f; entries = 0 ∷ 0 ∷ 0 ∷ 0 ∷ [] }
 
 module _ (g : Geometry) (e : Entry) (w work : List ℕ) where
   pub change-merges : (own : Bool) → fillsHead g w own ≡ true → mergedChange g e w work ≡ changeOf g e own w work
@@ -94,9 +95,9 @@ module _ (g : Geometry) (e : Entry) (w work : List ℕ) where
   unfolding changeOf
   change-edits own h = rw (h, changeOf) refl
 
-  pub merge-stays : (i : ℕ) → fault g w ≡ faultAt i → told (faultOn i) w work ≡ mergedChange g e w work
+  pub merge-stays : (f : Fault) → fault g w ≡ faultAt f → told (faultOn f) w work ≡ mergedChange g e w work
   unfolding mergedChange stayed faultOn
-  merge-stays i h = rw (h, mergedChange) refl
+  merge-stays f h = rw (h, mergedChange) refl
 
   pub merge-goes-on : fault g w ≡ sound → changedTree g e w work ≡ mergedChange g e w work
   unfolding mergedChange

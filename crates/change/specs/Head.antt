@@ -27,12 +27,14 @@ use Rattle.page.specs.Form.{slots-counted}
 use Rattle.page.specs.Told.{length-run}
 use Rattle.rules.specs.Tree.{Entry}
 use Rattle.rules.specs.Level.{index}
-use Rattle.rules.specs.Sound.{geometryOf, pagesOf, headSlots, entriesOf, fencePages, directoryRight, headRight}
+use Rattle.rules.specs.Sound.{headSlots, entriesOf, fencePages, directoryRight, headRight}
+use Rattle.geometry.specs.Directory.{geometryOf, pagesOf}
 use Rattle.walk.specs.declared.Walked.the-variants.{Found}
-use Rattle.walk.specs.declared.HeadRead.{HeadRead}
-use Rattle.walk.specs.Passes.{headScanned, head-reach, head-entries}
+use Rattle.form.specs.declared.HeadRead.{HeadRead}
+use Rattle.form.specs.Passes.{headScanned, head-reach, head-entries}
 use Rattle.walk.specs.Read.{head-tests, head-some}
-use Rattle.walk.specs.Walk.{walked, found-directory, found-head, pages-in-room}
+use Rattle.walk.specs.Walk.{walked, found-directory, found-head}
+use Rattle.rules.specs.Directed.{pages-most}
 use Rattle.entries.specs.Levels.{PagesWithin}
 use Rattle.entries.specs.Ready.{pages-within}
 use Rattle.stored.specs.Fitting.{WordsFit}
@@ -47,7 +49,7 @@ pub record LiveMoves (normal : Bool) (live : ℕ) : Type 0 where
   pub up : normal ≡ true → live < 4294967295
   pub down : normal ≡ false → 1 ≤ live
 
--- A head with room for one more slot, of which so many stand first.
+-- A head with room for one more slot, and its first `behind` slots.
 pub record Editable (e : Entry) (behind : ℕ) (w : List ℕ) : Type 0 where
   pub some : 1 ≤ behind
   pub within : behind ≤ getD w headCountWord 0
@@ -82,7 +84,7 @@ module _ (g : Geometry) (w : List ℕ) (fit : InRange g) (directory : directoryR
         ltb-true (length (entriesOf ss)) (g .head) (tests .1),
         ap length (equal-true (fencePages ss) (span (λ p. p) 0 (pagesOf g w 1)) (tests .4)),
         length-span (λ p. p) 0 (pagesOf g w 1),
-        pages-in-room g w 1 (fit .levels-most) directory (omega arith) (omega (arith, fit .levels-least)),
+        pages-most g w directory 1 (omega arith) (omega arith) (omega (arith, fit .levels-least)),
       )
 
 -- The first of them is at most every pair.

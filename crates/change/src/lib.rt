@@ -6,9 +6,10 @@ ghost use lib.Dec.{leb, eqb};
 ghost use lib.ListN.{length};
 ghost use Rattle.geometry.specs.Places.{workWords};
 ghost use Rattle.geometry.specs.Lent.{Lent};
+ghost use Rattle.geometry.specs.Geometry.{mostHead};
 ghost use Rattle.rules.specs.Sound.{headSlots};
 ghost use Rattle.good.specs.Edit.{liveAfter};
-ghost use Rattle.walk.specs.Passes.{headScanned};
+ghost use Rattle.form.specs.Passes.{headScanned};
 ghost use Rattle.edited.specs.Reach.{reach as reachOf};
 ghost use Rattle.entries.specs.Run.{entry as indexed};
 ghost use Rattle.entries.specs.Levels.{PagesWithin};
@@ -19,15 +20,17 @@ use edit::add_entry;
 use edit::entry_counts;
 use edit::remove_entry;
 use entries::Entry;
+use fault::Fault;
+use form::HeadRead;
 use geometry::Geometry;
 use geometry::Plan;
+use slot::SlotNo;
 use sound::Whole;
-use walk::HeadRead;
 
-// What a change came to: live pairs, the deepest level merged into and the pages written, or the level of a fault, with nothing changed.
+// What a change came to: live pairs, the deepest level merged into and the pages written, or a fault, with nothing changed.
 pub enum Outcome {
     Done(u32, u32, u32),
-    Fault(u32),
+    Fault(Fault),
 }
 
 // What came of a change, with the index entries in each level.
@@ -36,24 +39,30 @@ pub struct Report {
     pub entries: [u32; 4],
 }
 
+// What the walk found of a pair: whether it is held, the level that decides, and what the pass over the head told.
+pub struct Finding {
+    pub held: bool,
+    pub level: u32,
+    pub head: HeadRead,
+}
+
 // Puts an entry into the head, or takes out the head's own entry of its pair, where the head decided; then the head is settled.
-// What the head holds is known from the walk.
 pub fn change(
     store: &mut [u32],
     work: &mut [u32],
     g: Geometry,
     plan: Plan,
     entry: Entry,
-    decider: u32,
-    head: HeadRead,
+    finding: Finding,
 ) -> Report
     requires { ⌜ Lent g plan (now store) ⌝ }
     requires { ⌜ length (now work) ≡ workWords g ⌝ }
-    requires { ⌜ Accepted g (now store) (indexed entry) decider ⌝ }
-    requires { ⌜ head ≡ headScanned g (now store) (entry .pair) ⌝ }
-    ensures { λ r. ⌜ told r (now (store .exit)) (now (work .exit)) ≡ changeOf g (indexed entry) (eqb decider 0) (now (store .entry)) (now (work .entry)) ⌝ }
+    requires { ⌜ Accepted g (now store) (indexed entry) (finding .level) ⌝ }
+    requires { ⌜ finding .head ≡ headScanned g (now store) (entry .pair) ⌝ }
+    ensures { λ r. ⌜ told r (now (store .exit)) (now (work .exit)) ≡ changeOf g (indexed entry) (eqb (finding .level) 0) (now (store .entry)) (now (work .entry)) ⌝ }
 {
-    let own = decider == 0;
+    let head = finding.head;
+    let own = finding.level == 0;
     if fills_head(g, head.entries, own) {
         return change_and_settle(store, work, g, plan, entry, head.reach);
     }
@@ -63,7 +72,7 @@ pub fn change(
 
 // Whether the head has its capacity of entries with one more, and so is to be merged.
 fn fills_head(g: Geometry, entries: u32, own: bool) -> bool
-    requires { ⌜ entries ≤ 64 ⌝ }
+    requires { ⌜ entries ≤ mostHead ⌝ }
     ensures { λ r. ⌜ r ≡ (not own && leb (g .head) (suc entries)) ⌝ }
 {
     if own {
@@ -88,8 +97,8 @@ fn change_and_settle(
     ensures { λ r. ⌜ told r (now (store .exit)) (now (work .exit)) ≡ mergedChange g (indexed entry) (now (store .entry)) (now (work .entry)) ⌝ }
 {
     match sound::whole_fault(store, g, plan) {
-        Whole::Fault(level) => Report {
-            outcome: Outcome::Fault(level),
+        Whole::Fault(fault) => Report {
+            outcome: Outcome::Fault(fault),
             entries: [0; 4],
         },
         Whole::Sound => {
@@ -112,7 +121,7 @@ fn settle_head(store: &mut [u32], work: &mut [u32], g: Geometry, plan: Plan) -> 
     done(store, g, plan, settled.deepest, settled.pages)
 }
 
-// Edits the head behind the first slots, so many, and changes live with it.
+// Edits the head after its first `reach` slots, and changes live with it.
 fn edit_head(store: &mut [u32], entry: Entry, reach: u32, own: bool)
     requires { ⌜ Editable (indexed entry) reach (now store) ⌝ }
     ensures { λ _. ⌜ now (store .exit) ≡ editedBehind (indexed entry) reach own (now (store .entry)) ⌝ }
@@ -128,7 +137,7 @@ fn toggle_entry(store: &mut [u32], entry: Entry, reach: u32, own: bool)
     ensures { λ _. ⌜ now (store .exit) ≡ toggledBehind (indexed entry) reach own (now (store .entry)) ⌝ }
 {
     if own {
-        remove_entry(store, reach - 1);
+        remove_entry(store, SlotNo(reach - 1));
     } else {
         add_entry(store, entry, reach);
     }

@@ -1,5 +1,5 @@
--- The tally of calls by the rules: the requests since the last format come to the state that stands, and its numbers are theirs. So the pages
--- reported are at most those allowed. Assumes nothing.
+-- The calls since the last format, by the rules: their requests come to the state that stands, and the counts since then are theirs. So the
+-- pages reported are at most those allowed. Assumes nothing.
 use Prim.Native.Nat.{ℕ, zero, suc, _+_, _≤_}
 use native.Mathlib.Omega.{arith}
 use mathlib.Core.Path.{_≡_, refl, sym, ap, _∙_}
@@ -18,13 +18,13 @@ use Rattle.rules.specs.Requests.{Request, step, run, final, accepted, pairIn, R
 use Rattle.rules.specs.Allowance.{allowed}
 use Rattle.promises.specs.Sets.{Holds, step-agrees}
 use Rattle.promises.specs.Allowed.{reported, reported-allowed}
-use Rattle.index.specs.Reply.{Reply}
+use Rattle.opening.specs.Reply.{Reply}
 use Rattle.conditions.specs.Calls.{Task, formatting, changing, asking, listing, checking, Call, TaskFits, CallsFit, Made, make, history}
 use Rattle.conditions.specs.Lengths.{refusal, passed, given, geometryThen, geometryAfter}
 use Rattle.conditions.specs.Plain.{Answer, answerTo, answered, setThen, refusing-number}
 use Rattle.conditions.specs.Seen.{seen-number}
 use Rattle.conditions.specs.Ruled.{movesTo, writesBy, writes, stateThen, stateAfter}
-use Rattle.conditions.specs.Reports.{Tally, noneYet, pagesIn, tallied, tally}
+use Rattle.conditions.specs.Reports.{SinceFormat, noneYet, pagesIn, countCall, sinceFormat}
 use Rattle.conditions.specs.Stands.{Stands}
 use Rattle.conditions.specs.Called.{CallAgrees, call-agrees}
 
@@ -64,7 +64,7 @@ unfolding RequestsFit
 fits-then [] r f w = (w, tt)
 fits-then (q ∷ rs) r f w = (f .0, fits-then rs r (f .1) w)
 
-pub record Accounts (g : Geometry) (s : State) (t : Tally) : Type 0 where
+pub record Accounts (g : Geometry) (s : State) (t : SinceFormat) : Type 0 where
   pub requests : List Request
   pub fits : RequestsFit requests
   pub reached : s ≡ final (formatted g) (run g (formatted g) requests)
@@ -75,13 +75,13 @@ pub none-accounts : (g : Geometry) → Accounts g (formatted g) noneYet
 unfolding RequestsFit run final accepted passing reported
 none-accounts g = record { requests = []; fits = tt; reached = refl; accepted-all = refl; reported-all = refl }
 
-pub accounts-allowed : (g : Geometry) (s : State) (t : Tally) → InRange g → Accounts g s t → t .pages ≤ allowed g (t .accepted)
+pub accounts-allowed : (g : Geometry) (s : State) (t : SinceFormat) → InRange g → Accounts g s t → t .pages ≤ allowed g (t .accepted)
 accounts-allowed g s t fit a = rw (a .accepted-all, a .reported-all) (reported-allowed g fit (a .requests) (a .fits))
 
 -- A call that was refused, and one that passed the tests of lengths.
-module _ (g : Geometry) (s : State) (t : Tally) (a : Accounts g s t) (r : Reply) where
-  refused-accounts : (task : Task) (n : ℕ) → r .number ≡ suc n → pagesIn task r ≡ 0 → Accounts g s (tallied task r t)
-  unfolding tallied
+module _ (g : Geometry) (s : State) (t : SinceFormat) (a : Accounts g s t) (r : Reply) where
+  refused-accounts : (task : Task) (n : ℕ) → r .number ≡ suc n → pagesIn task r ≡ 0 → Accounts g s (countCall task r t)
+  unfolding countCall
   refused-accounts (formatting h) n e p = rw (e, ne-eqb (suc n) 0 (λ q. omega (arith, q))) a
   refused-accounts (changing q work) n e p =
       let none-more : _≡_ {A = ℕ} (cond (eqb (r .number) 0) 1 0) 0 = rw (e, ne-eqb (suc n) 0 (λ q. omega (arith, q))) refl in
@@ -97,8 +97,8 @@ module _ (g : Geometry) (s : State) (t : Tally) (a : Accounts g s t) (r : Reply)
   refused-accounts checking n e p = a
 
   passed-accounts : (set : List Pair) (task : Task) → InRange g → Holds g s set → TaskFits task → r .number ≡ (answerTo (most g) task set) .number →
-      pagesIn task r ≡ length (writesBy g task s) → Accounts (given g task) (movesTo g task s) (tallied task r t)
-  unfolding tallied given movesTo writesBy answerTo TaskFits
+      pagesIn task r ≡ length (writesBy g task s) → Accounts (given g task) (movesTo g task s) (countCall task r t)
+  unfolding countCall given movesTo writesBy answerTo TaskFits
   passed-accounts set (formatting h) fit holds f e p = rw e (none-accounts h)
   passed-accounts set (changing q work) fit holds f e p =
       let rs = a .requests in
@@ -118,8 +118,8 @@ module _ (g : Geometry) (s : State) (t : Tally) (a : Accounts g s t) (r : Reply)
   passed-accounts set (listing first second slice) fit holds f e p = a
   passed-accounts set checking fit holds f e p = a
 
-call-accounts : (g : Geometry) (s : State) (set : List Pair) (words : List ℕ) (c : Call) (t : Tally) → Stands g s set words →
-    CallAgrees g s set words c (make c words) → TaskFits (c .task) → Accounts g s t → Accounts (geometryThen g c) (stateThen g c s) (tallied (c .task) ((make c words) .reply) t)
+call-accounts : (g : Geometry) (s : State) (set : List Pair) (words : List ℕ) (c : Call) (t : SinceFormat) → Stands g s set words →
+    CallAgrees g s set words c (make c words) → TaskFits (c .task) → Accounts g s t → Accounts (geometryThen g c) (stateThen g c s) (countCall (c .task) ((make c words) .reply) t)
 unfolding make answered writes geometryThen stateThen passed
 call-accounts g s set words c t stands agrees f a = by (refusal g c) refl
   where
@@ -130,18 +130,18 @@ call-accounts g s set words c t stands agrees f a = by (refusal g c) refl
     told = sym (seen-number (c .task) (m .reply) (m .beside)) ∙ ap (λ (x : Answer). x .number) (agrees .answers)
 
     by : (n : ℕ) → refusal g c ≡ n →
-        Accounts (passed (refusal g c) (given g (c .task)) g) (passed (refusal g c) (movesTo g (c .task) s) s) (tallied (c .task) (m .reply) t)
+        Accounts (passed (refusal g c) (given g (c .task)) g) (passed (refusal g c) (movesTo g (c .task) s) s) (countCall (c .task) (m .reply) t)
     by zero e =
         rw e
         (passed-accounts g s t a (m .reply) set (c .task) (stands .in-range) (stands .holds) f (told ∙ rw e refl) (agrees .pages ∙ rw e refl))
     by (suc n) e = rw e (refused-accounts g s t a (m .reply) (c .task) n (told ∙ rw e (refusing-number (suc n) (c .task))) (agrees .pages ∙ rw e refl))
 
-pub calls-account : (cs : List Call) (g : Geometry) (s : State) (set : List Pair) (words : List ℕ) (t : Tally) → Stands g s set words →
-    CallsFit (length words) cs → Accounts g s t → Accounts (geometryAfter g cs) (stateAfter g s cs) (tally t (history words cs))
-unfolding CallsFit history geometryAfter stateAfter tally make
+pub calls-account : (cs : List Call) (g : Geometry) (s : State) (set : List Pair) (words : List ℕ) (t : SinceFormat) → Stands g s set words →
+    CallsFit (length words) cs → Accounts g s t → Accounts (geometryAfter g cs) (stateAfter g s cs) (sinceFormat t (history words cs))
+unfolding CallsFit history geometryAfter stateAfter sinceFormat make
 calls-account [] g s set words t stands f a = a
 calls-account (c ∷ cs) g s set words t stands f a =
     let here = call-agrees g s set words c stands (f .0 .0) (f .0 .1) in
     let m = make c words in
-    calls-account cs (geometryThen g c) (stateThen g c s) (setThen g c set) (m .words) (tallied (c .task) (m .reply) t) (here .after)
+    calls-account cs (geometryThen g c) (stateThen g c s) (setThen g c set) (m .words) (countCall (c .task) (m .reply) t) (here .after)
     (rw (here .as-long) (f .1)) (call-accounts g s set words c t stands here (f .0 .1) a)

@@ -19,19 +19,19 @@ use Rattle.slot.specs.Pair.{Words}
 use Rattle.rules.specs.Merging.{State, formatted}
 use Rattle.rules.specs.Listing.{list}
 use Rattle.rules.specs.Store.{writing, emptyStore}
-use Rattle.rules.specs.Sound.{geometryOf, sound, fault}
+use Rattle.rules.specs.Sound.{sound, fault}
+use Rattle.geometry.specs.Directory.{geometryOf}
 use Rattle.rules.specs.Requests.{Request, step, pairIn}
 use Rattle.walk.specs.Walk.{walked}
 use Rattle.promises.specs.Written.{good-length, good-geometry, good-tree, good-sound, good-walks}
 use Rattle.promises.specs.Calls.{step-comes}
 use Rattle.promises.specs.Sets.{Holds, step-agrees}
 use Rattle.promises.specs.Listed.{holds-lists}
-use Rattle.index.specs.Reply.{firstFailing}
-use Rattle.index.specs.Opening.{opening}
-use Rattle.index.specs.Ask.{walkReply, ask-walked}
-use Rattle.index.specs.List.{list-tested}
-use Rattle.index.specs.Format.{formatTests, formatOf}
-use Rattle.index.specs.Edit.{both-short}
+use Rattle.opening.specs.Reply.{firstFailing}
+use Rattle.opening.specs.Opening.{opening, both-short}
+use Rattle.call_ask.specs.Ask.{walkReply, ask-walked}
+use Rattle.call_check.specs.List.{list-tested}
+use Rattle.call_format.specs.Format.{formatTests, formatOf}
 use Rattle.conditions.specs.Calls.{Task, formatting, changing, asking, listing, checking, Call, TaskFits, comesTo, Made, make}
 use Rattle.conditions.specs.Lengths.{testsOf, refusal, passed, given, geometryThen}
 use Rattle.conditions.specs.Plain.{fillsSlice, answerTo, leaves, answered, setThen}
@@ -112,7 +112,7 @@ module _ (g : Geometry) (s : State) (set : List Pair) (rest : List ℕ) (fit : I
     fits : eqb n (storeWords g) ≡ true
     fits = eq-eqb n (storeWords g) exact
 
-    opened : 0 ≡ opening w
+    opened : opening w ≡ 0
     opened = opens g fit s (holds .good)
 
     stored : geometryOf w ≡ g
@@ -138,10 +138,10 @@ module _ (g : Geometry) (s : State) (set : List Pair) (rest : List ℕ) (fit : I
     unfolding make comesTo seenOf answerTo writesBy given movesTo leaves pagesIn refusal testsOf firstFailing list fillsSlice
     list-whole first second slice =
         let c = lending (listing first second slice) in
-        let passes : sound ≡ fault (geometryOf w) w = sym (ap (λ (h : Geometry). fault h w) stored ∙ good-sound g s fit (holds .good)) in
+        let passes : fault (geometryOf w) w ≡ sound = ap (λ (h : Geometry). fault h w) stored ∙ good-sound g s fit (holds .good) in
         let told = ap (λ (pairs : List Pair). fillsSlice pairs slice) (holds-lists g s set holds first second) in
         passed-agrees g s set words c stands (rw (fits, firstFailing) refl)
-        (rw (whole, ← (list-tested w first second slice opened sound passes), stored, good-tree g s fit (holds .good)) told) refl
+        (rw (whole, ← (list-tested w first second slice opened), passes, stored, good-tree g s fit (holds .good)) told) refl
         (rw (take-append-drop n words) stands) (ap length (take-append-drop n words))
 
     -- A put or drop has a work area to be lent too.
@@ -150,7 +150,7 @@ module _ (g : Geometry) (s : State) (set : List Pair) (rest : List ℕ) (fit : I
     change-unlent r work other =
         let differs = ne-eqb (length work) (workWords g) other in
         refused-agrees g s set words (lending (changing r work)) stands 4 (rw (fits, firstFailing) (rw (differs, firstFailing) refl))
-        (rw whole (change-refused 4 w r work (both-short w work (rw stored differs) opened)))
+        (rw whole (change-refused 4 w r work (both-short w work opened (rw stored differs))))
 
     change-whole : (r : Request) (work : List ℕ) → Words (pairIn r) → length work ≡ workWords g → Agreed (changing r work)
     unfolding make comesTo seenOf answerTo writesBy given movesTo leaves pagesIn refusal testsOf firstFailing keptBy

@@ -6,12 +6,12 @@ use Rattle.geometry.specs.declared.Geometry.{Geometry}
 use Rattle.slot.specs.declared.Pair.{Pair}
 use Rattle.slot.specs.Pair.{Words}
 use Rattle.rules.specs.Requests.{Request, putting, dropping, pairIn}
-use Rattle.index.specs.Reply.{Reply}
-use Rattle.index.specs.Ask.{askOf}
-use Rattle.index.specs.Check.{checkOf}
-use Rattle.index.specs.List.{listOf}
-use Rattle.index.specs.Format.{formatOf}
-use Rattle.index.specs.Edit.{Kept, putOf, dropOf}
+use Rattle.opening.specs.Reply.{Reply}
+use Rattle.call_ask.specs.Ask.{askOf}
+use Rattle.call_check.specs.Check.{checkOf}
+use Rattle.call_check.specs.List.{listOf}
+use Rattle.call_format.specs.Format.{formatOf}
+use Rattle.call_put.specs.Edit.{Kept, putOf, dropOf}
 
 -- What a call is asked, with the words lent to it beside the store: a work area for a put or drop, a slice for list.
 pub data Task : Type 0 where
@@ -21,7 +21,7 @@ pub data Task : Type 0 where
   listing : Pair → Pair → List ℕ → Task
   checking : Task
 
--- The caller has words with the store first in them, and lends a call so many of them, from the first on.
+-- The caller has words with the store first in them, and lends a call the first `lent` of them.
 pub record Call : Type 0 where
   pub lent : ℕ
   pub task : Task

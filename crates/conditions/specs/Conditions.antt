@@ -16,13 +16,13 @@ use Rattle.rules.specs.Merging.{State, formatted}
 use Rattle.rules.specs.Store.{writing}
 use Rattle.rules.specs.Requests.{Request, step, pairIn}
 use Rattle.rules.specs.Allowance.{allowed}
-use Rattle.index.specs.Check.{checkOf}
+use Rattle.call_check.specs.Check.{checkOf}
 use Rattle.conditions.specs.Calls.{Call, CallsFit, changeOn, Made, make, history, wordsAfter}
 use Rattle.conditions.specs.Lengths.{geometryAfter}
 use Rattle.conditions.specs.Plain.{answers, setAfter}
 use Rattle.conditions.specs.Seen.{seen}
 use Rattle.conditions.specs.Ruled.{stateAfter, pagesWritten}
-use Rattle.conditions.specs.Reports.{pagesReported, noneYet, tally}
+use Rattle.conditions.specs.Reports.{pagesReported, noneYet, sinceFormat}
 use Rattle.conditions.specs.Edited.{keptBy, change-kept}
 use Rattle.conditions.specs.Stands.{stands-first, stands-sound, stands-most}
 use Rattle.conditions.specs.Sequences.{AllAgree, calls-agree}
@@ -88,9 +88,9 @@ module _ (g : Geometry) (fit : InRange g) (before : List ℕ) (room : storeWords
       rw store-is-the-writing (change-kept inForce (agree .after .in-range) state (agree .after .holds .good) work exact r pair)
 
   -- Condition 3. The sum of the pages reported is at most what is allowed to the number of puts and drops accepted, both counted since the last format.
-  pub pages-allowed : (tally noneYet made) .pages ≤ allowed inForce ((tally noneYet made) .accepted)
+  pub pages-allowed : (sinceFormat noneYet made) .pages ≤ allowed inForce ((sinceFormat noneYet made) .accepted)
   pages-allowed =
-      accounts-allowed inForce state (tally noneYet made) (agree .after .in-range)
+      accounts-allowed inForce state (sinceFormat noneYet made) (agree .after .in-range)
       (calls-account cs g (formatted g) [] begun noneYet (format-stands g fit before room) all-fit (none-accounts g))
 
   -- The number that each call reports is that of the pages that the merge rules write.

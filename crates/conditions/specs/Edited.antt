@@ -15,7 +15,7 @@ use Rattle.slot.specs.Pair.{Words}
 use Rattle.rules.specs.Finding.{held}
 use Rattle.rules.specs.Merging.{State, edit, entries, Outcome, refused, done, put, remove}
 use Rattle.rules.specs.Store.{writing}
-use Rattle.rules.specs.Sound.{geometryOf}
+use Rattle.geometry.specs.Directory.{geometryOf}
 use Rattle.rules.specs.Good.{Good}
 use Rattle.rules.specs.Requests.{Request, putting, dropping, step, pairIn}
 use Rattle.walk.specs.Walk.{walked}
@@ -25,7 +25,8 @@ use Rattle.good.specs.Calls.{put-held as put-of-held, put-full as put-of-full, 
 use Rattle.promises.specs.Calls.{ComesTo, refusal, edited}
 use Rattle.promises.specs.Written.{good-reads, good-geometry, good-walks}
 use Rattle.change.specs.Change.{changeOf}
-use Rattle.index.specs.Edit.{Kept, kept, zeros, changedReply, putFound, dropFound, foundOf, editOf, edit-walked, put-held, put-full, put-changes, drop-missing, drop-changes, openingBoth, both-pass}
+use Rattle.opening.specs.Opening.{openingBoth, both-pass}
+use Rattle.call_put.specs.Edit.{Kept, kept, zeros, changedReply, putFound, dropFound, foundOf, editOf, edit-walked, put-held, put-full, put-changes, drop-missing, drop-changes}
 use Rattle.conditions.specs.Calls.{changeOn}
 use Rattle.conditions.specs.Changed.{workAfter, ruledChange, change-written}
 use Rattle.conditions.specs.Opened.{opens}
@@ -61,12 +62,12 @@ module _ (g : Geometry) (fit : InRange g) (s : State) (good : Good g s) (work : 
   live-read : getD w liveWord 0 ≡ s .live
   live-read = good-reads g s fit good .live-pairs
 
-  both-open : 0 ≡ openingBoth w work
-  both-open = both-pass w work (rw stored (eq-eqb (length work) (workWords g) exact)) (opens g fit s good)
+  both-open : openingBoth w work ≡ 0
+  both-open = both-pass w work (opens g fit s good) (rw stored (eq-eqb (length work) (workWords g) exact))
 
   module _ (p : Pair) where
     found : (normal : Bool) → foundOf w work normal p (held p (s .tree)) (decider p (s .tree)) ≡ editOf w work normal p
-    found normal = edit-walked w work normal p both-open (sym (ap (λ (h : Geometry). walked h w p) stored ∙ good-walks g s fit good p))
+    found normal = rw (ap (λ (h : Geometry). walked h w p) stored ∙ good-walks g s fit good p) at (edit-walked w work normal p both-open)
 
     -- What changes, where the rules accept it.
     module _ (pair : Words p) (normal : Bool) (h : held p (s .tree) ≡ not normal) (room : normal ≡ true → s .live < most g) where

@@ -14,7 +14,7 @@ use Rattle.rules.specs.Merging.{formatted}
 use Rattle.rules.specs.Store.{emptyStore}
 use Rattle.good.specs.Format.{formatted-good}
 use Rattle.promises.specs.Written.{good-length}
-use Rattle.index.specs.Format.{format-done}
+use Rattle.call_format.specs.Format.{format-done}
 use Rattle.conditions.specs.Calls.{formatting, Call, comesTo, Made, make}
 use Rattle.conditions.specs.Stands.{Stands, empty-stands}
 

@@ -6,7 +6,7 @@ use lib.Dec.{eqb}
 use Rattle.geometry.specs.declared.Geometry.{Geometry}
 use Rattle.geometry.specs.Geometry.{inRange}
 use Rattle.geometry.specs.Places.{storeWords, workWords}
-use Rattle.index.specs.Reply.{Test, test, firstFailing}
+use Rattle.opening.specs.Reply.{Test, test, firstFailing}
 use Rattle.conditions.specs.Calls.{Task, formatting, changing, asking, listing, checking, Call}
 
 -- 1 for numbers outside their ranges; 5 for a store or a work area that is not lent in its exact length.

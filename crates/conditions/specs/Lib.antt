@@ -14,7 +14,7 @@
 --   Stands      a set that stands in words
 --   Called      one call where a set stands
 --   Sequences   any calls where a set stands
---   Accounts    their tally, and the pages allowed
+--   Accounts    their counts since the last format, and the pages allowed
 --   Numbers     no fault among the replies
 --   Formatted   a format of any words
 --   Conditions  the statements

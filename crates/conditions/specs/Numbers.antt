@@ -13,7 +13,7 @@ use Rattle.slot.specs.declared.Pair.{Pair}
 use Rattle.rules.specs.Requests.{Request, putting, dropping}
 use Rattle.promises.specs.Plain.{has}
 use Rattle.promises.specs.Answers.{answer}
-use Rattle.index.specs.Reply.{first-among}
+use Rattle.opening.specs.Reply.{first-among}
 use Rattle.conditions.specs.Calls.{Task, formatting, changing, asking, listing, checking, Call, Made}
 use Rattle.conditions.specs.Lengths.{testsOf, refusal, passed, geometryThen}
 use Rattle.conditions.specs.Plain.{Answer, fillsSlice, answerTo, refusing, answered, setThen, answers, refusing-number}

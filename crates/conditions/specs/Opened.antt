@@ -12,27 +12,27 @@ use borrow.Author.Tests.{le-leb, eq-eqb, ne-eqb, leb-true}
 use Rattle.geometry.specs.declared.Geometry.{Geometry}
 use Rattle.geometry.specs.Geometry.{InRange}
 use Rattle.geometry.specs.Bounds.{range-tested}
-use Rattle.geometry.specs.Places.{storeWords, planOf}
+use Rattle.geometry.specs.Places.{storeWords, planOf, directoryWords}
 use Rattle.geometry.specs.Lent.{lent}
 use Rattle.rules.specs.Merging.{State}
 use Rattle.rules.specs.Store.{writing}
-use Rattle.rules.specs.Sound.{geometryOf}
+use Rattle.geometry.specs.Directory.{geometryOf}
 use Rattle.rules.specs.Good.{Good}
 use Rattle.promises.specs.Written.{good-length, good-geometry}
-use Rattle.index.specs.Opening.{opening, too-short, wrong-length, all-pass}
+use Rattle.opening.specs.Opening.{opening, too-short, wrong-length, all-pass}
 
 module _ (g : Geometry) (fit : InRange g) (s : State) (good : Good g s) where
   abbrev w : List ℕ
   w = writing g s
 
-  nine : 9 ≤ length w
+  nine : directoryWords ≤ length w
   nine = lent g (planOf g) w fit refl (good-length g s fit good) .nine
 
   -- A store lent in its exact length passes.
-  pub opens : 0 ≡ opening w
+  pub opens : opening w ≡ 0
   opens =
       let stored = good-geometry g s fit good in
-      all-pass w (le-leb 9 (length w) nine) (rw stored (range-tested g fit)) (rw stored (eq-eqb (length w) (storeWords g) (good-length g s fit good)))
+      all-pass w (le-leb directoryWords (length w) nine) (rw stored (range-tested g fit)) (rw stored (eq-eqb (length w) (storeWords g) (good-length g s fit good)))
 
   -- With more words behind it.
   module _ (rest : List ℕ) where
@@ -50,11 +50,11 @@ module _ (g : Geometry) (fit : InRange g) (s : State) (good : Good g s) where
       as-long : length v ≡ n
       as-long = length-take-le n (w ++ rest) there
 
-      word-read : (i : ℕ) → i < n → i < 9 → getD v i 0 ≡ getD w i 0
+      word-read : (i : ℕ) → i < n → i < directoryWords → getD v i 0 ≡ getD w i 0
       word-read i h k =
           getD-take n (w ++ rest) i 0 h ∙ List·getD-append w rest 0 i (omega (arith, k, nine))
 
-      geometry-read : 9 ≤ n → geometryOf v ≡ g
+      geometry-read : directoryWords ≤ n → geometryOf v ≡ g
       unfolding geometryOf
       geometry-read h =
           (λ i. record {
@@ -64,11 +64,11 @@ module _ (g : Geometry) (fit : InRange g) (s : State) (good : Good g s) where
           }) ∙
           good-geometry g s fit good
 
-      pub other-refused : 5 ≡ opening v
-      other-refused = by-words (leb 9 (length v)) refl
+      pub other-refused : opening v ≡ 5
+      other-refused = by-words (leb directoryWords (length v)) refl
         where
-          by-words : (b : Bool) → leb 9 (length v) ≡ b → 5 ≡ opening v
+          by-words : (b : Bool) → leb directoryWords (length v) ≡ b → opening v ≡ 5
           by-words false h = too-short v h
           by-words true h =
-              let read : geometryOf v ≡ g = geometry-read (omega (arith, as-long, leb-true 9 (length v) h)) in
+              let read : geometryOf v ≡ g = geometry-read (omega (arith, as-long, leb-true directoryWords (length v) h)) in
               wrong-length v h (rw read (range-tested g fit)) (rw read (ne-eqb (length v) (storeWords g) (λ q. other (sym as-long ∙ q))))

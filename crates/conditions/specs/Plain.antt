@@ -1,4 +1,4 @@
--- The same calls on a plain set of pairs, an ascending list of at most so many. It knows of no level, page or fence. Assumes nothing.
+-- The same calls on a plain set of pairs, an ascending list of at most M pairs. It knows of no level, page or fence. Assumes nothing.
 use Prim.Native.Nat.{ℕ, _+_, _*_, _/_}
 use mathlib.Core.Path.{_≡_, refl}
 use mathlib.Core.Bool.{true, false, cond}

@@ -8,13 +8,13 @@ use borrow.Author.Tests.{ne-eqb}
 use Rattle.geometry.specs.declared.Geometry.{Geometry}
 use Rattle.geometry.specs.Places.{storeWords}
 use Rattle.rules.specs.Requests.{Request, putting, dropping}
-use Rattle.index.specs.Opening.{opening}
-use Rattle.index.specs.Ask.{ask-refused}
-use Rattle.index.specs.Check.{check-refused}
-use Rattle.index.specs.List.{list-refused}
-use Rattle.index.specs.Format.{formatOf, formatTests}
-use Rattle.index.specs.Reply.{firstFailing}
-use Rattle.index.specs.Edit.{zeros, openingBoth, edit-refused, both-refused}
+use Rattle.opening.specs.Opening.{opening, openingBoth, both-refused}
+use Rattle.call_ask.specs.Ask.{ask-refused}
+use Rattle.call_check.specs.Check.{check-refused}
+use Rattle.call_check.specs.List.{list-refused}
+use Rattle.call_format.specs.Format.{formatOf, formatTests}
+use Rattle.opening.specs.Reply.{firstFailing}
+use Rattle.call_put.specs.Edit.{zeros, edit-refused}
 use Rattle.conditions.specs.Calls.{Task, formatting, changing, asking, listing, checking, Comes, changeOn, comesTo}
 use Rattle.conditions.specs.Lengths.{testsOf, refusal}
 use Rattle.conditions.specs.Plain.{refusing}
@@ -66,7 +66,7 @@ ReadsStore checking = Unit {0}
 
 -- By the opening tests: of the store for ask, list and check, of the work area too for put and drop; by its own for format.
 module _ (n : ℕ) (w : List ℕ) where
-  pub change-refused : (r : Request) (work : List ℕ) → suc n ≡ openingBoth w work → comesTo (changing r work) w ≡ refusedOn (suc n) (changing r work) w
+  pub change-refused : (r : Request) (work : List ℕ) → openingBoth w work ≡ suc n → comesTo (changing r work) w ≡ refusedOn (suc n) (changing r work) w
   unfolding comesTo changeOn refusedOn zerosOf lentBeside
   change-refused (putting p) work e = rw (← (edit-refused w work true p n e)) refl
   change-refused (dropping p) work e = rw (← (edit-refused w work false p n e)) refl
@@ -75,7 +75,7 @@ module _ (n : ℕ) (w : List ℕ) where
   unfolding comesTo formatOf refusedOn zerosOf lentBeside
   format-refused g e = rw e refl
 
-  pub opening-refuses : (task : Task) → ReadsStore task → suc n ≡ opening w → comesTo task w ≡ refusedOn (suc n) task w
+  pub opening-refuses : (task : Task) → ReadsStore task → opening w ≡ suc n → comesTo task w ≡ refusedOn (suc n) task w
   unfolding ReadsStore comesTo refusedOn zerosOf lentBeside
   opening-refuses (formatting g) f e = absurd f
   opening-refuses (changing r work) f e = change-refused r work (both-refused w work n e)

@@ -4,7 +4,7 @@ use mathlib.Core.Bool.{cond}
 use mathlib.Core.List.{List, [], _∷_, map}
 use lib.ListN.{getD}
 use lib.Dec.{eqb}
-use Rattle.index.specs.Reply.{Reply}
+use Rattle.opening.specs.Reply.{Reply}
 use Rattle.conditions.specs.Calls.{Task, formatting, changing, asking, listing, checking, Made}
 
 -- The third value of put and drop; no other call reports pages.
@@ -19,20 +19,20 @@ unfoldable pub pagesReported : List Made → List ℕ
 pagesReported ms = map (λ m. pagesIn (m .task) (m .reply)) ms
 
 -- The puts and drops accepted since the last format that was done, and the sum of the pages that they reported.
-pub record Tally : Type 0 where
+pub record SinceFormat : Type 0 where
   pub accepted : ℕ
   pub pages : ℕ
 
-abbrev pub noneYet : Tally
+abbrev pub noneYet : SinceFormat
 noneYet = record { accepted = 0; pages = 0 }
 
-unfoldable pub tallied : Task → Reply → Tally → Tally
-tallied (formatting g) r t = cond (eqb (r .number) 0) noneYet t
-tallied (changing q work) r t = record { accepted = t .accepted + cond (eqb (r .number) 0) 1 0; pages = t .pages + pagesIn (changing q work) r }
-tallied (asking p) r t = t
-tallied (listing first second slice) r t = t
-tallied checking r t = t
+unfoldable pub countCall : Task → Reply → SinceFormat → SinceFormat
+countCall (formatting g) r t = cond (eqb (r .number) 0) noneYet t
+countCall (changing q work) r t = record { accepted = t .accepted + cond (eqb (r .number) 0) 1 0; pages = t .pages + pagesIn (changing q work) r }
+countCall (asking p) r t = t
+countCall (listing first second slice) r t = t
+countCall checking r t = t
 
-unfoldable pub tally : Tally → List Made → Tally
-tally t [] = t
-tally t (m ∷ ms) = tally (tallied (m .task) (m .reply) t) ms
+unfoldable pub sinceFormat : SinceFormat → List Made → SinceFormat
+sinceFormat t [] = t
+sinceFormat t (m ∷ ms) = sinceFormat (countCall (m .task) (m .reply) t) ms

@@ -3,7 +3,7 @@ use Prim.Native.Nat.{ℕ}
 use mathlib.Core.Path.{_≡_, refl}
 use mathlib.Core.List.{List, [], map}
 use lib.ListN.{take}
-use Rattle.index.specs.Reply.{Reply}
+use Rattle.opening.specs.Reply.{Reply}
 use Rattle.conditions.specs.Calls.{Task, formatting, changing, asking, listing, checking, Made}
 use Rattle.conditions.specs.Plain.{Answer}
 

@@ -15,7 +15,7 @@ use Rattle.rules.specs.Requests.{run, final, RequestsFit}
 use Rattle.promises.specs.Written.{good-geometry, good-sound}
 use Rattle.promises.specs.Answers.{answers as answers-of-requests, setAfter as set-after-requests}
 use Rattle.promises.specs.Sets.{Holds, run-holds}
-use Rattle.index.specs.Check.{checkOf, check-tested}
+use Rattle.call_check.specs.Check.{checkOf, check-tested}
 use Rattle.conditions.specs.Opened.{opens, whole-lent}
 
 -- Words that begin with the writing of a good state, which holds the pairs of a set.

@@ -22,7 +22,7 @@ slotIn s place end w = sets w place (wordsOf s ++ slice place end w)
 unfoldable pub slotOut : ℕ → ℕ → List ℕ → List ℕ
 slotOut place end w = sets w place (slice (place + 3) end w ++ erased ∷ erased ∷ erased ∷ [])
 
--- The head with an entry added behind its first slots, so many, and with the entry of a slot removed; its slot count goes with it.
+-- The head with an entry inserted after its first `behind` slots, and with the entry of a slot removed; its slot count goes with it.
 unfoldable pub entryAdded : Entry → ℕ → List ℕ → List ℕ
 entryAdded e behind w =
     let count = getD w headCountWord 0 in

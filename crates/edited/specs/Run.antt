@@ -12,7 +12,7 @@ use Rattle.geometry.specs.Places.{erased}
 use Rattle.slot.specs.declared.Slot.{Slot}
 use Rattle.slot.specs.Slot.{wordsOf}
 use Rattle.rules.specs.Store.{runWords}
-use Rattle.written.specs.Run.{wordsOfAll, words-length, run-rest}
+use Rattle.layout.specs.Run.{wordsOfAll, words-length, run-rest}
 use Rattle.edit.specs.Head.{slotIn, slotOut}
 
 -- The words of slots joined, and of the first slots and the later ones.

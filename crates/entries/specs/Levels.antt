@@ -9,13 +9,14 @@ use borrow.Author.Tests.{le-ltb, lt-ltb}
 use Rattle.laws.specs.Lists.{span, concat}
 use Rattle.geometry.specs.declared.Geometry.{Geometry}
 use Rattle.geometry.specs.Geometry.{InRange, room}
-use Rattle.geometry.specs.Places.{pagesWord, headCountWord, pageSlots, headRoom, levelStart, pagePlace, slotPlace, storeWords}
+use Rattle.geometry.specs.Places.{pagesWord, headCountWord, slotsInPage, headRoom, levelStart, pagePlace, slotPlace, storeWords, directoryWords}
 use Rattle.geometry.specs.Bounds.{room-small}
 use Rattle.geometry.specs.Apart.{level-one, level-after, level-inside}
 use Rattle.slot.specs.declared.Slot.{Slot}
 use Rattle.slot.specs.Slot.{slotAt}
 use Rattle.rules.specs.Tree.{Level, Tree}
-use Rattle.rules.specs.Sound.{pagesOf, slotsFrom, headSlots, countAt, pageSlots as slotsOfPage, levelSlots, entriesOf, treeOf}
+use Rattle.rules.specs.Sound.{slotsFrom, headSlots, countAt, pageSlots, levelSlots, entriesOf, treeOf}
+use Rattle.geometry.specs.Directory.{pagesOf, pages-none}
 use Rattle.entries.specs.declared.Run.{Run}
 use Rattle.entries.specs.declared.Runs.{Runs}
 use Rattle.entries.specs.Run.{Inside, countIn, placeIn, pageIn, entriesIn}
@@ -25,7 +26,7 @@ unfoldable pub headRun : Geometry → Run
 headRun g = record { start = headCountWord; pages = 1; most = headRoom g }
 
 unfoldable pub levelRun : Geometry → List ℕ → ℕ → Run
-levelRun g w i = record { start = levelStart g i; pages = pagesOf g w i; most = pageSlots }
+levelRun g w i = record { start = levelStart g i; pages = pagesOf g w i; most = slotsInPage }
 
 unfoldable pub runsOf : Geometry → List ℕ → Runs
 runsOf g w = record { head = headRun g; first = levelRun g w 1; second = levelRun g w 2; third = levelRun g w 3 }
@@ -34,7 +35,7 @@ runsOf g w = record { head = headRun g; first = levelRun g w 1; second = levelRu
 unfoldable pub treeIn : List ℕ → Runs → Tree
 treeIn w rs = entriesIn w (rs .head) ∷ entriesIn w (rs .first) ∷ entriesIn w (rs .second) ∷ entriesIn w (rs .third) ∷ []
 
--- Four runs lie inside so many words.
+-- Four runs lie inside a slice of `words` words.
 pub record AllInside (rs : Runs) (words : ℕ) : Type 0 where
   pub head : Inside (rs .head) words
   pub first : Inside (rs .first) words
@@ -48,8 +49,8 @@ pub record PagesWithin (g : Geometry) (w : List ℕ) : Type 0 where
   pub third : pagesOf g w 3 ≤ room g 3
 
 -- The entries of a level's run are those of its slots, and so with the head.
-page-slots : (g : Geometry) (w : List ℕ) (i p : ℕ) → pageIn w (levelRun g w i) p ≡ slotsOfPage g w i p
-unfolding levelRun pageIn countIn placeIn slotsOfPage countAt slotPlace pagePlace slotsFrom
+page-slots : (g : Geometry) (w : List ℕ) (i p : ℕ) → pageIn w (levelRun g w i) p ≡ pageSlots g w i p
+unfolding levelRun pageIn countIn placeIn pageSlots countAt slotPlace pagePlace slotsFrom
 page-slots g w i p = ap (λ (at : ℕ). span (λ j. slotAt w (at + 3 * j)) 0 (min (getD w (levelStart g i + 64 * p) 0) 21)) (sym (add-zero (levelStart g i + 64 * p + 1)))
 
 pub level-entries : (g : Geometry) (w : List ℕ) (i : ℕ) → entriesIn w (levelRun g w i) ≡ entriesOf (levelSlots g w i)
@@ -60,18 +61,9 @@ pub head-entries : (g : Geometry) (w : List ℕ) → entriesIn w (headRun g) ≡
 unfolding entriesIn headRun pageIn countIn placeIn headSlots slotsFrom span concat
 head-entries g w = ap entriesOf (append-nil _)
 
--- A level that does not exist has none.
-pub pages-none : (g : Geometry) (w : List ℕ) (i : ℕ) → g .levels ≤ i → pagesOf g w i ≡ 0
-unfolding pagesOf
-pages-none g w i h = rw (le-ltb i (g .levels) h, pagesOf)
-
-pub pages-there : (g : Geometry) (w : List ℕ) (i : ℕ) → i < g .levels → pagesOf g w i ≡ getD w (pagesWord i) 0
-unfolding pagesOf
-pages-there g w i h = rw (lt-ltb i (g .levels) h, pagesOf)
-
 pub level-none : (g : Geometry) (w : List ℕ) (i : ℕ) → g .levels ≤ i → entriesOf (levelSlots g w i) ≡ []
 unfolding levelSlots span concat entriesOf
-level-none g w i h = ap (λ (n : ℕ). entriesOf (concat (span (slotsOfPage g w i) 0 n))) (pages-none g w i h)
+level-none g w i h = ap (λ (n : ℕ). entriesOf (concat (span (pageSlots g w i) 0 n))) (pages-none g w i h)
 
 -- What is so of a tree of two, three or four levels and of the same with empty levels below is so of the tree that the words hold and
 -- of the four runs' entries.
@@ -114,6 +106,6 @@ module _ (g : Geometry) (w : List ℕ) (fit : InRange g) where
   }
 
 -- The store has its directory.
-pub store-nine : (g : Geometry) → 9 ≤ storeWords g
+pub store-nine : (g : Geometry) → directoryWords ≤ storeWords g
 unfolding storeWords levelStart
 store-nine g = omega arith

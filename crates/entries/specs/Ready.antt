@@ -11,7 +11,7 @@ use Rattle.laws.specs.Lists.{span, all, equal}
 use Rattle.laws.specs.Tests.{and-left, and-right}
 use Rattle.geometry.specs.declared.Geometry.{Geometry}
 use Rattle.geometry.specs.Geometry.{most, room}
-use Rattle.geometry.specs.Places.{liveWord, pagesWord, reservedWord, headCountWord, headRoom, headStart, levelStart}
+use Rattle.geometry.specs.Places.{liveWord, pagesWord, modeWord, openMode, headCountWord, headRoom, headStart, levelStart}
 use Rattle.slot.specs.declared.Slot.{Slot}
 use Rattle.slot.specs.Pair.{rank, before, same}
 use Rattle.slot.specs.Order.{before-below, same-level, below-before}
@@ -19,30 +19,19 @@ use Rattle.rules.specs.Tree.{Level, rankOf}
 use Rattle.rules.specs.Level.{fenceKind, pagesFor, fences, weave}
 use Rattle.rules.specs.Finding.{normalKind}
 use Rattle.rules.specs.Store.{runWords, levelWords}
-use Rattle.rules.specs.Sound.{pagesOf, headSlots, levelSlots, entriesOf, firstAt, treeOf, pagesRight, directoryRight, follows, inOrder, legal, fencePages, firstIsLeast, headRight, pageFormed, ascending, levelLaid, withinCapacity, levelSound, headSound, Fault, sound, faultAt, levelsFault, acrossFault, else, fault}
+use Rattle.rules.specs.Sound.{headSlots, levelSlots, entriesOf, firstAt, treeOf, pagesRight, directoryRight, follows, inOrder, legal, fencePages, firstIsLeast, headRight, pageFormed, ascending, levelLaid, withinCapacity, levelSound, headSound, Judged, sound, faultAt, inLevel, levelsFault, acrossFault, else, fault}
+use Rattle.geometry.specs.Directory.{pagesOf}
+use Rattle.rules.specs.Directed.{pages-fit}
 use Rattle.entries.specs.Levels.{PagesWithin}
 use Rattle.entries.specs.Ascending.{From, from-lower, ascending-from, levelsAscend, chain-first}
 
 -- The directory's page counts -----------------------------------------------------------------------------------------------------------------
 
-pages-right : (g : Geometry) (w : List ℕ) (i : ℕ) → pagesRight g w i ≡ true → pagesOf g w i ≤ room g i
-unfolding pagesRight pagesOf
-pages-right g w i e = picked (ltb i (g .levels)) e
-  where
-    picked : (b : Bool) → elim b [ true ↦ leb 1 (getD w (pagesWord i) 0) && leb (getD w (pagesWord i) 0) (room g i) | false ↦ eqb (getD w (pagesWord i) 0) 0 ] ≡ true →
-        elim b as (λ _. ℕ) [ true ↦ getD w (pagesWord i) 0 | false ↦ 0 ] ≤ room g i
-    picked true q = leb-true (getD w (pagesWord i) 0) (room g i) (and-right (leb 1 (getD w (pagesWord i) 0)) (leb (getD w (pagesWord i) 0) (room g i)) q)
-    picked false q = omega arith
-
 pub pages-within : (g : Geometry) (w : List ℕ) → directoryRight g w ≡ true → PagesWithin g w
-unfolding directoryRight all
-pages-within g w e =
-    let live : Bool = leb (getD w liveWord 0) (most g) in
-    let counts : Bool = all (pagesRight g w) (1 ∷ 2 ∷ 3 ∷ []) in
-    let one = chain-first (pagesRight g w 1) (all (pagesRight g w) (2 ∷ 3 ∷ [])) (and-right live counts (and-left (live && counts) (eqb (getD w reservedWord 0) 0) e)) in
-    let two = chain-first (pagesRight g w 2) (all (pagesRight g w) (3 ∷ [])) (one .1) in
-    let three = chain-first (pagesRight g w 3) true (two .1) in
-    record { first = pages-right g w 1 (one .0); second = pages-right g w 2 (two .0); third = pages-right g w 3 (three .0) }
+pages-within g w right = record { first = fit 1 (omega arith) (omega arith); second = fit 2 (omega arith) (omega arith); third = fit 3 (omega arith) (omega arith) }
+  where
+    fit : (i : ℕ) → 1 ≤ i → i ≤ 3 → pagesOf g w i ≤ room g i
+    fit = pages-fit g w right
 
 -- Slots in order have entries that ascend ------------------------------------------------------------------------------------------------------
 
@@ -132,16 +121,16 @@ levels-sound g w (suc n) i e j a b = picked (levelSound g w i) refl e (λ r h. l
         let d : ¬ (i ≡ j) = eqb-false i j x in
         later (omega arith)
 
-    picked : (b : Bool) → levelSound g w i ≡ b → elim b [ true ↦ levelsFault g w (suc i) n | false ↦ faultAt i ] ≡ sound →
+    picked : (b : Bool) → levelSound g w i ≡ b → elim b [ true ↦ levelsFault g w (suc i) n | false ↦ faultAt (inLevel i) ] ≡ sound →
         (levelsFault g w (suc i) n ≡ sound → suc i ≤ j → levelSound g w j ≡ true) → levelSound g w j ≡ true
     picked true q r ih = there (eqb i j) refl q (ih r)
     picked false q r ih = let z : _≡_ {A = ℕ} 0 1 = cc in absurd (omega arith)
 
 -- Where nothing is found at all, the first finds nothing.
-none-first : (first later : Fault) → else first later ≡ sound → first ≡ sound
+none-first : (first later : Judged) → else first later ≡ sound → first ≡ sound
 unfolding else
 none-first sound later e = refl
-none-first (faultAt i) later e = e
+none-first (faultAt f) later e = e
 
 pub sound-ready : (g : Geometry) (w : List ℕ) → fault g w ≡ sound → PagesWithin g w × (levelsAscend (treeOf g w) ≡ true)
 unfolding fault headSound
@@ -150,7 +139,7 @@ sound-ready g w e = picked (directoryRight g w && headSound g w) refl e
     slots : List Slot
     slots = weave (entriesOf (headSlots g w)) (fences (firstAt g w 1) (pagesOf g w 1))
 
-    picked : (b : Bool) → (directoryRight g w && headSound g w) ≡ b → elim b [ true ↦ else (levelsFault g w 1 (g .levels - 1)) (acrossFault g w) | false ↦ faultAt 0 ] ≡ sound →
+    picked : (b : Bool) → (directoryRight g w && headSound g w) ≡ b → elim b [ true ↦ else (levelsFault g w 1 (g .levels - 1)) (acrossFault g w) | false ↦ faultAt (inLevel 0) ] ≡ sound →
         PagesWithin g w × (levelsAscend (treeOf g w) ≡ true)
     picked true q r =
         let a : Bool = eqb (length slots) (getD w headCountWord 0) in

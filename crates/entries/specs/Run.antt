@@ -8,7 +8,7 @@ use mathlib.Core.Bool.{Bool, true, false}
 use mathlib.Core.List.{List, [], _∷_, _++_, append-assoc}
 use lib.ListN.{length, getD, length-append}
 use Rattle.laws.specs.Lists.{span, concat}
-use Rattle.geometry.specs.Places.{slotWords, pageWords}
+use Rattle.geometry.specs.Places.{wordsInSlot, wordsInPage}
 use Rattle.slot.specs.declared.Slot.{Slot}
 use Rattle.slot.specs.Slot.{slotAt}
 use Rattle.rules.specs.Tree.{Level}
@@ -24,18 +24,18 @@ use Rattle.entries.specs.declared.Entry.{Entry}
 abbrev pub entry : Entry → Indexed
 entry e = record { pair = e .pair; normal = e .normal }
 
--- The slots of every page lie inside so many words, and they are few.
+-- The slots of every page lie inside a slice of `words` words, and they are few.
 pub record Inside (run : Run) (words : ℕ) : Type 0 where
-  pub ends : run .start + 64 * run .pages + 3 * run .most ≤ words + 63
+  pub ends : run .start + wordsInPage * run .pages + wordsInSlot * run .most ≤ words + 63
   pub few-pages : run .pages ≤ 2000
   pub few-slots : run .most ≤ 4000
 
 -- The slot count of page p, and the first word of its slot j.
 unfoldable pub countIn : List ℕ → Run → ℕ → ℕ
-countIn w run p = min (getD w (run .start + pageWords * p) 0) (run .most)
+countIn w run p = min (getD w (run .start + wordsInPage * p) 0) (run .most)
 
 unfoldable pub placeIn : Run → ℕ → ℕ → ℕ
-placeIn run p j = run .start + pageWords * p + 1 + slotWords * j
+placeIn run p j = run .start + wordsInPage * p + 1 + wordsInSlot * j
 
 -- What one slot shows, as entries: one or none.
 unfoldable pub shownAt : List ℕ → ℕ → Level

@@ -7,10 +7,11 @@ ghost use lib.ListN.{length};
 ghost use lib.Dec.{leb};
 ghost use Rattle.rules.specs.Level.{index};
 ghost use Rattle.entries.specs.Run.{Inside, entry as indexed, countIn, placeIn};
-ghost use Rattle.entries.specs.Levels.{AllInside, levelRun, runsOf};
+ghost use Rattle.entries.specs.Levels.{AllInside, headRun, levelRun, runsOf};
 ghost use Rattle.entries.specs.Skip.{skip, skipAll, stopsAt, pageFrom, slotIn};
 ghost use Rattle.entries.specs.Spot.{spotOf, cursorAt, pageAt, upcoming, upcomings, Standing, AllStanding};
-ghost use Rattle.geometry.specs.Places.{levelStart, planOf};
+ghost use Rattle.geometry.specs.Places.{planOf};
+ghost use Rattle.geometry.specs.Lent.{Lent};
 use geometry::Geometry;
 use geometry::Plan;
 use laws::both;
@@ -22,7 +23,7 @@ use slot::Pid;
 use slot::Slot;
 use slot::SlotNo;
 
-// Pages of 64 words from a place on, whose slot counts are read as at most so many. The head is a run of one page.
+// Pages of 64 words, from the first word on. A page's slot count above `most` is read as `most`. The head is a run of one page.
 pub struct Run {
     pub start: u32,
     pub pages: u32,
@@ -35,7 +36,7 @@ pub struct Cursor {
     pub slot: SlotNo,
 }
 
-// A spot is a cursor in one number, which stays in a register: so many times its page number, and its slot number.
+// A spot is a cursor in one number, which stays in a register: PAGE_STEP times its page number, plus its slot number.
 const PAGE_STEP: u64 = 4294967296;
 
 // An index entry: a pair, and normal or a filter.
@@ -62,19 +63,13 @@ pub struct Spots {
 
 // The runs of a store's levels.
 pub fn runs_of(store: &[u32], g: Geometry, plan: Plan) -> Runs
-    requires { ⌜ plan ≡ planOf g ⌝ }
-    requires { ⌜ 9 ≤ length (now store) ⌝ }
+    requires { ⌜ Lent g plan (now store) ⌝ }
     ensures { λ r. ⌜ r ≡ runsOf g (now (store .entry)) ⌝ }
 {
-    let starts = plan.starts;
-    let head = Run {
-        start: geometry::HEAD_COUNT as u32,
-        pages: 1,
-        most: plan.head_room,
-    };
-    let first = level_run(store, g, 1, starts[1]);
-    let second = level_run(store, g, 2, starts[2]);
-    let third = level_run(store, g, 3, starts[3]);
+    let head = head_run(g, plan);
+    let first = level_run(store, g, plan, 1);
+    let second = level_run(store, g, plan, 2);
+    let third = level_run(store, g, plan, 3);
     Runs {
         head,
         first,
@@ -83,45 +78,50 @@ pub fn runs_of(store: &[u32], g: Geometry, plan: Plan) -> Runs
     }
 }
 
-// The run of a level below the head that begins at a place.
-pub fn level_run(store: &[u32], g: Geometry, level: u32, start: u32) -> Run
-    requires { ⌜ (level ≤ 3) × (9 ≤ length (now store)) ⌝ }
-    requires { ⌜ start ≡ levelStart g level ⌝ }
+// The head's run: one page, from the head's count on.
+pub fn head_run(g: Geometry, plan: Plan) -> Run
+    requires { ⌜ plan ≡ planOf g ⌝ }
+    ensures { λ r. ⌜ r ≡ headRun g ⌝ }
+{
+    Run {
+        start: geometry::HEAD_COUNT as u32,
+        pages: 1,
+        most: plan.head_room,
+    }
+}
+
+// The run of a level below the head. A level that does not exist has no pages.
+pub fn level_run(store: &[u32], g: Geometry, plan: Plan, level: u32) -> Run
+    requires { ⌜ Lent g plan (now store) ⌝ }
+    requires { ⌜ (1 ≤ level) × (level ≤ 3) ⌝ }
     ensures { λ r. ⌜ r ≡ levelRun g (now (store .entry)) level ⌝ }
 {
-    if level < g.levels {
-        let pages = store[geometry::PAGE_COUNTS + level as usize];
-        return Run {
-            start,
-            pages,
-            most: geometry::PAGE_SLOTS,
-        };
-    }
+    let place = geometry::level_place(store, g, plan, level);
     Run {
-        start,
-        pages: 0,
+        start: place.start,
+        pages: place.pages,
         most: geometry::PAGE_SLOTS,
     }
 }
 
 // The slot count of a page, read as at most the run's.
-pub fn count_in(words: &[u32], run: Run, page: u32) -> u32
+pub fn count_in(words: &[u32], run: Run, page: Pid) -> u32
     requires { ⌜ Inside run (length (now words)) ⌝ }
-    requires { ⌜ page < run .pages ⌝ }
-    ensures { λ r. ⌜ r ≡ countIn (now (words .entry)) run page ⌝ }
+    requires { ⌜ page .0 < run .pages ⌝ }
+    ensures { λ r. ⌜ r ≡ countIn (now (words .entry)) run (page .0) ⌝ }
 {
-    let count = words[run.start as usize + geometry::PAGE_WORDS * page as usize];
+    let count = words[run.start as usize + geometry::PAGE_WORDS * page.0 as usize];
     if count < run.most { count } else { run.most }
 }
 
 // The first word of a slot of a page.
-pub fn place_in(run: Run, page: u32, slot: u32) -> usize
-    ensures { λ r. ⌜ r ≡ placeIn run page slot ⌝ }
+pub fn place_in(run: Run, page: Pid, slot: SlotNo) -> usize
+    ensures { λ r. ⌜ r ≡ placeIn run (page .0) (slot .0) ⌝ }
 {
     run.start as usize
-        + geometry::PAGE_WORDS * page as usize
+        + geometry::PAGE_WORDS * page.0 as usize
         + geometry::FIRST_SLOT
-        + geometry::SLOT_WORDS * slot as usize
+        + geometry::SLOT_WORDS * slot.0 as usize
 }
 
 // The slot that an index entry is written in.
@@ -155,15 +155,15 @@ pub fn skip_to(words: &[u32], run: Run, from: u64, pair: Pair) -> u64
     let mut page = first.0;
     let mut slot = start.0;
     while page < run.pages {
-        let count = count_in(words, run, page);
-        slot = skip_in_page(words, run, page, slot, pair);
-        if slot < count {
-            return spot_of(page, slot);
+        let count = count_in(words, run, Pid(page));
+        let found = skip_in_page(words, run, Pid(page), SlotNo(slot), pair);
+        if found.0 < count {
+            return spot_of(Pid(page), found);
         }
         page += 1;
         slot = 0;
     }
-    spot_of(page, slot)
+    spot_of(Pid(page), SlotNo(slot))
 }
 
 // Four spots, each moved forward to a pair.
@@ -189,21 +189,24 @@ pub fn spots_from(words: &[u32], runs: Runs, spots: Spots, pair: Pair) -> Spots
 }
 
 // The first slot of a page from one on that is an index entry not before a pair, or one past the page's slots.
-fn skip_in_page(words: &[u32], run: Run, page: u32, from: u32, pair: Pair) -> u32
+fn skip_in_page(words: &[u32], run: Run, page: Pid, from: SlotNo, pair: Pair) -> SlotNo
     requires { ⌜ Inside run (length (now words)) ⌝ }
-    requires { ⌜ page < run .pages ⌝ }
-    ensures told { λ r. ⌜ pageFrom (now (words .entry)) run page r ≡ skip pair (pageFrom (now (words .entry)) run page from) ⌝ }
-    ensures stops { λ r. ⌜ (r < countIn (now (words .entry)) run page → stopsAt pair (slotIn (now (words .entry)) run page r) ≡ true) ⌝ }
+    requires { ⌜ page .0 < run .pages ⌝ }
+    ensures told { λ r. ⌜ pageFrom (now (words .entry)) run (page .0) (r .0) ≡ skip pair (pageFrom (now (words .entry)) run (page .0) (from .0)) ⌝ }
+    ensures stops { λ r. ⌜ (r .0 < countIn (now (words .entry)) run (page .0) → stopsAt pair (slotIn (now (words .entry)) run (page .0) (r .0)) ≡ true) ⌝ }
 {
     let count = count_in(words, run, page);
-    let mut slot = from;
+    let mut slot = from.0;
     while slot < count {
-        if stops(slot::read_slot(words, place_in(run, page, slot)), pair) {
-            return slot;
+        if stops(
+            slot::read_slot(words, place_in(run, page, SlotNo(slot))),
+            pair,
+        ) {
+            return SlotNo(slot);
         }
         slot += 1;
     }
-    slot
+    SlotNo(slot)
 }
 
 // Whether a slot is an index entry that is not before a pair.
@@ -235,7 +238,7 @@ pub fn entry_at(words: &[u32], run: Run, spot: u64) -> Entry
     let cursor = cursor_at(spot);
     let page = cursor.page;
     let number = cursor.slot;
-    let read = slot::read_slot(words, place_in(run, page.0, number.0));
+    let read = slot::read_slot(words, place_in(run, page, number));
     let pair = read.pair;
     let kind = read.kind;
     Entry {
@@ -245,10 +248,10 @@ pub fn entry_at(words: &[u32], run: Run, spot: u64) -> Entry
 }
 
 // The spot of a page and a slot number.
-fn spot_of(page: u32, slot: u32) -> u64
-    ensures { λ r. ⌜ r ≡ spotOf page slot ⌝ }
+fn spot_of(page: Pid, slot: SlotNo) -> u64
+    ensures { λ r. ⌜ r ≡ spotOf (page .0) (slot .0) ⌝ }
 {
-    PAGE_STEP * page as u64 + slot as u64
+    PAGE_STEP * page.0 as u64 + slot.0 as u64
 }
 
 // The cursor at a spot.

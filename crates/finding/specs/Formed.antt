@@ -20,11 +20,10 @@ use Rattle.slot.specs.declared.Slot.{Slot}
 use Rattle.rules.specs.Tree.{level}
 use Rattle.rules.specs.Level.{pagesFor, pageOf, weave, slotsOf}
 use Rattle.rules.specs.Merging.{State}
-use Rattle.rules.specs.Sound.{pagesOf, headSlots, pageSlots, entriesOf, pagesRight, directoryRight, inOrder, legal, fencePages, firstIsLeast, headRight, countRight, pageFormed, ascending, withinCapacity}
+use Rattle.rules.specs.Sound.{headSlots, pageSlots, entriesOf, pagesRight, directoryRight, inOrder, legal, fencePages, firstIsLeast, headRight, countRight, pageFormed, ascending, withinCapacity}
+use Rattle.geometry.specs.Directory.{pagesOf, pages-none, pages-of}
 use Rattle.rules.specs.Good.{Good, Fits}
 use Rattle.rules.specs.Reading.{Reads}
-use Rattle.walk.specs.Passes.{pages-of}
-use Rattle.entries.specs.Levels.{pages-none}
 use Rattle.finding.specs.Rising.{rising-take, rising-drop, rising-order}
 use Rattle.rules.specs.Pages.{pages-some, pages-inside}
 use Rattle.rules.specs.Woven.{entries-woven, fence-pages-woven}

@@ -19,6 +19,7 @@ use Rattle.rules.specs.Sound.{legal, legalKind}
 use Rattle.rules.specs.Woven.{fence}
 use Rattle.rules.specs.Paged.{by-paging}
 use Rattle.finding.specs.Rising.{turn, weight, Rising, entry-weight}
+use Rattle.geometry.specs.Places.{slotsInPage}
 
 -- A slot of a row that is not cut into pages: its fences are external, so a fence names a page below.
 legal-inner : (below : ℕ) (s : Slot) → legal false below s ≡ true → legal true below s ≡ true
@@ -86,7 +87,7 @@ rising-paged below =
 
 -- Each page begins with a fence: the slot that stands m after one at j of its page, where j + m is a whole number of pages.
 abbrev pub Opens : ℕ → List Slot → Type 0
-Opens j row = (m : ℕ) (d : Slot) → j < 21 → (j + m) % 21 ≡ 0 → m < length row → fence (getD row m d) ≡ true
+Opens j row = (m : ℕ) (d : Slot) → j < slotsInPage → (j + m) % slotsInPage ≡ 0 → m < length row → fence (getD row m d) ≡ true
 
 pub fence-opens : (j last : ℕ) (ss : List Slot) → Opens j (paged j last ss)
 unfolding internal

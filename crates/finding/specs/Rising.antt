@@ -14,6 +14,7 @@ use Rattle.slot.specs.Pair.{rank, before, same}
 use Rattle.slot.specs.Order.{not-before-above, level-same}
 use Rattle.rules.specs.Level.{fenceKind}
 use Rattle.rules.specs.Sound.{follows, inOrder}
+use Rattle.geometry.specs.Places.{wordsInSlot}
 
 -- At one pair an external fence stands first, then an internal one, then an index entry.
 abbrev pub turn : Kind → ℕ
@@ -23,7 +24,7 @@ turn Normal = 2
 turn Filter = 2
 
 unfoldable pub weight : Slot → ℕ
-weight s = 3 * rank (s .pair) + turn (s .kind)
+weight s = wordsInSlot * rank (s .pair) + turn (s .kind)
 
 -- The slots' weights rise from n on.
 unfoldable pub Rising : ℕ → List Slot → Type 0

@@ -124,7 +124,7 @@ module _ (p : Pair) where
       rw (woven-first es below ss, paged-least rest, on-least nothing (paged 1 0 rest), tell-paged 1 0 rest, ← on-least nothing rest, ← woven-first es below ss)
       (tell-head es (below ∷ ss) a)
 
--- The page that is told: the last one, of so many, whose first pair is at most the pair, page 0 where there is none.
+-- The page that is told: the last of the pages whose first pair is at most the pair, page 0 where there is none.
 pub record Leads (p : Pair) (first : ℕ → Pair) (pages : ℕ) (told : Told) : Type 0 where
   pub page : ℕ
   pub follows : told ≡ follow page

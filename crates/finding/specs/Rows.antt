@@ -20,6 +20,7 @@ use Rattle.finding.specs.Paged.{legal-paged, rising-paged, fence-opens}
 use Rattle.rules.specs.Pages.{pages-some}
 use Rattle.rules.specs.Woven.{fence, index-legal, all-woven}
 use Rattle.finding.specs.Fences.{fencesOver, pagesUnder, fences-only, fences-legal, bottom-legal, fences-rising, fences-first}
+use Rattle.geometry.specs.Places.{slotsInPage}
 
 -- The row of a level over those below it.
 unfoldable pub rowOn : Level → List (List Slot) → List Slot
@@ -56,12 +57,12 @@ pub paged-least : (ss : List Slot) → paged 0 0 (external least 0 ∷ ss) ≡ e
 unfolding paged external
 paged-least ss = refl
 
--- What each row is, over so many pages.
+-- What each row is, over the pages below.
 pub record Row (below : ℕ) (slots : List Slot) : Type 0 where
   pub rising : Rising 0 slots
   pub tags : all (legal true below) slots ≡ true
   pub first-least : 1 ≤ below → firstIsLeast slots ≡ true
-  pub opens : 1 ≤ below → (q : ℕ) (d : Slot) → 21 * q < length slots → fence (getD slots (21 * q) d) ≡ true
+  pub opens : 1 ≤ below → (q : ℕ) (d : Slot) → slotsInPage * q < length slots → fence (getD slots (slotsInPage * q) d) ≡ true
 
 unfoldable pub Rows : List (List Slot) → Type 0
 Rows [] = Unit {0}

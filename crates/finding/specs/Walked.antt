@@ -20,7 +20,8 @@ use Rattle.rules.specs.Tree.{Level, Tree, level}
 use Rattle.rules.specs.Level.{pagesFor, pageOf, firstOf, laid, slotsOf}
 use Rattle.rules.specs.Finding.{Met, absent, met, find, held, Told, tell}
 use Rattle.rules.specs.Merging.{State}
-use Rattle.rules.specs.Sound.{pagesOf, headSlots, ascending, pageRight, firstRight}
+use Rattle.rules.specs.Sound.{headSlots, ascending, pageRight, firstRight}
+use Rattle.geometry.specs.Directory.{pagesOf}
 use Rattle.rules.specs.Good.{Good, Fits}
 use Rattle.rules.specs.Reading.{Reads}
 use Rattle.walk.specs.declared.Walked.the-variants.{Found}

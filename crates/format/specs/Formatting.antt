@@ -16,18 +16,20 @@ use Rattle.laws.specs.Flat.{slice-replicate, replicate-slice}
 use Rattle.laws.specs.Sets.{getD-sets-behind, part-before, part-behind, part-stored}
 use Rattle.geometry.specs.declared.Geometry.{Geometry}
 use Rattle.geometry.specs.declared.Plan.{Plan}
+use Rattle.geometry.specs.declared.LevelPlace.{LevelPlace}
 use Rattle.geometry.specs.Geometry.{InRange, room}
-use Rattle.geometry.specs.Places.{erased, headStart, headRoom, levelStart, storeWords}
+use Rattle.geometry.specs.Places.{erased, headStart, headRoom, levelStart, storeWords, directoryWords, wordsInPage, wordsInSlot}
 use Rattle.geometry.specs.Bounds.{room-least}
 use Rattle.geometry.specs.Apart.{level-after, level-inside, level-before}
-use Rattle.geometry.specs.Lent.{Lent, starts-at, page-at}
+use Rattle.geometry.specs.Lent.{Lent, page-at}
+use Rattle.geometry.specs.Directory.{levelPlace}
 use Rattle.slot.specs.declared.Slot.{Slot}
 use Rattle.slot.specs.Slot.{wordsOf}
 use Rattle.rules.specs.Level.{pagesFor, pageOf}
 use Rattle.rules.specs.Merging.{formatted}
 use Rattle.rules.specs.Store.{runWords, pageWords, levelWords, directory, writing, emptyStore}
-use Rattle.written.specs.Run.{wordsOfAll, words-length}
-use Rattle.written.specs.Pages.{Unused, levelPage, level-pages, page-used, page-unused, pages-joined}
+use Rattle.layout.specs.Run.{wordsOfAll, words-length}
+use Rattle.layout.specs.Pages.{Unused, levelPage, level-pages, page-used, page-unused, pages-joined}
 use Rattle.stored.specs.Parts.{parts-laid}
 use Rattle.stored.specs.Replacing.{head-before}
 use Rattle.format.specs.Empty.{firstFence, fenceAlone, emptyRow, emptySlots, row-at, row-head, row-short, row-one-page}
@@ -51,9 +53,9 @@ UnusedFrom w a = Unused w a (length w)
 pub record Formatting (g : Geometry) (w : List ℕ) (i : ℕ) : Type 0 where
   pub some : 1 ≤ i
   pub whole : length w ≡ storeWords g
-  pub front : take 9 w ≡ directory g 0 (emptySlots g)
-  pub head : take (3 * headRoom g) (drop headStart w) ≡ runWords (getD (emptySlots g) 0 []) (headRoom g)
-  pub levels : (j : ℕ) → 1 ≤ j → j < i → take (64 * room g j) (drop (levelStart g j) w) ≡ levelWords (getD (emptySlots g) j []) (room g j)
+  pub front : take directoryWords w ≡ directory g 0 (emptySlots g)
+  pub head : take (wordsInSlot * headRoom g) (drop headStart w) ≡ runWords (getD (emptySlots g) 0 []) (headRoom g)
+  pub levels : (j : ℕ) → 1 ≤ j → j < i → take (wordsInPage * room g j) (drop (levelStart g j) w) ≡ levelWords (getD (emptySlots g) j []) (room g j)
   pub rest : UnusedFrom w (levelStart g i)
 
 -- Erased words are unused. Of words stored over the first of unused ones, what stands there then, and that all behind them is still unused.
@@ -129,7 +131,7 @@ module _ (w : List ℕ) (start n : ℕ) (slots : List Slot) (one : pagesFor (len
           sym (page-unused slots (suc p) (omega arith))
 
 module _ (g : Geometry) (fit : InRange g) where
-  directory-length : length (directory g 0 (emptySlots g)) ≡ 9
+  directory-length : length (directory g 0 (emptySlots g)) ≡ directoryWords
   unfolding directory
   directory-length = refl
 
@@ -137,7 +139,7 @@ module _ (g : Geometry) (fit : InRange g) where
   unfolding headRoom
   head-some = omega (arith, fit .head-least)
 
-  head-inside : 9 + 3 * headRoom g ≤ storeWords g
+  head-inside : headStart + 3 * headRoom g ≤ storeWords g
   unfolding storeWords
   head-inside = head-before g 4
 
@@ -148,12 +150,12 @@ module _ (g : Geometry) (fit : InRange g) where
       let fits : length (wordsOf firstFence) ≤ 3 * headRoom g = omega (arith, fence-length, head-some) in
       record {
         some = omega arith;
-        whole = length-sets opened 9 (wordsOf firstFence) ∙ opened-length;
-        front = part-before opened 9 (wordsOf firstFence) 0 9 (omega arith) ∙
+        whole = length-sets opened headStart (wordsOf firstFence) ∙ opened-length;
+        front = part-before opened headStart (wordsOf firstFence) 0 directoryWords (omega arith) ∙
             (rw directory-length at (part-stored bare 0 (directory g 0 (emptySlots g)) (omega (arith, directory-length, bare-length, head-inside))));
-        head = stored-front opened 9 (wordsOf firstFence) rest (3 * headRoom g) fits (omega (arith, opened-length, head-inside)) ∙ rw (row-head g fit) (fence-run (headRoom g));
+        head = stored-front opened headStart (wordsOf firstFence) rest (3 * headRoom g) fits (omega (arith, opened-length, head-inside)) ∙ rw (row-head g fit) (fence-run (headRoom g));
         levels = λ j l b. absurd (omega arith);
-        rest = stored-rest opened 9 (wordsOf firstFence) rest (levelStart g 1) (omega (arith, fits, head-before g 1));
+        rest = stored-rest opened headStart (wordsOf firstFence) rest (levelStart g 1) (omega (arith, fits, head-before g 1));
       }
     where
       bare : List ℕ
@@ -168,8 +170,8 @@ module _ (g : Geometry) (fit : InRange g) where
       opened-length : length opened ≡ storeWords g
       opened-length = length-sets bare 0 (directory g 0 (emptySlots g)) ∙ bare-length
 
-      rest : UnusedFrom opened 9
-      rest = stored-rest bare 0 (directory g 0 (emptySlots g)) (all-unused w) 9 (omega (arith, directory-length))
+      rest : UnusedFrom opened headStart
+      rest = stored-rest bare 0 (directory g 0 (emptySlots g)) (all-unused w) headStart (omega (arith, directory-length))
 
   -- The first page of a level is written, and the level is as it stays.
   pub format-goes-on : (w : List ℕ) (i : ℕ) → i < g .levels → Formatting g w i → Formatting g (firstPageWritten g i w) (i + 1)
@@ -205,8 +207,8 @@ module _ (g : Geometry) (fit : InRange g) where
       written = record {
         some = omega arith;
         whole = length-sets w start front ∙ f .whole;
-        front = part-before w start front 0 9 (omega (arith, head-before g i)) ∙ f .front;
-        head = part-before w start front 9 (3 * headRoom g) (omega (arith, head-before g i)) ∙ f .head;
+        front = part-before w start front 0 directoryWords (omega (arith, head-before g i)) ∙ f .front;
+        head = part-before w start front headStart (3 * headRoom g) (omega (arith, head-before g i)) ∙ f .head;
         levels = λ j k b. chosen j k b (eqb j i) refl;
         rest = stored-rest w start front (f .rest) (levelStart g (i + 1)) (omega (arith, next, space, front-length row, row-short g fit i h));
       }
@@ -219,11 +221,6 @@ module _ (g : Geometry) (fit : InRange g) where
       (record { whole = f .whole; front = f .front; head = f .head; levels = λ j l b. f .levels j l (omega arith) })
 
 -- Where the code writes a level's first page.
-module _ (g : Geometry) (plan : Plan) (w : List ℕ) (lends : Lent g plan w) (i : ℕ) (some : 1 ≤ i) (there : i < g .levels) where
-  pub start-at : getD (plan .starts) i 0 ≡ levelStart g i
-  start-at = starts-at g plan w lends i some (omega (arith, lends .in-range .levels-most))
-
-  pub start-inside : getD (plan .starts) i 0 + 64 ≤ length w
-  start-inside =
-      let page = page-at g plan w lends i 0 some there (room-least g (lends .in-range) i some there) in
-      omega (arith, page .1)
+pub start-inside : (g : Geometry) (plan : Plan) (w : List ℕ) → Lent g plan w → (i : ℕ) → 1 ≤ i → i < g .levels → {place : LevelPlace} → place ≡ levelPlace g w i →
+    place .start + wordsInPage ≤ length w
+start-inside g plan w lends i some there e = omega (arith, page-at g plan w lends i 0 there (room-least g (lends .in-range) i some there) e .1)

@@ -5,6 +5,7 @@ ghost use lib.ListN.{length};
 ghost use lib.Seq.{sets};
 ghost use Rattle.geometry.specs.Geometry.{InRange};
 ghost use Rattle.geometry.specs.Lent.{Lent};
+ghost use Rattle.geometry.specs.Places.{directoryWords, wordsInPage, wordsInSlot, headStart};
 ghost use Rattle.slot.specs.Slot.{wordsOf};
 ghost use Rattle.rules.specs.Store.{pageCount, directory, emptyStore};
 ghost use Rattle.format.specs.Empty.{firstFence, emptyRow, emptySlots};
@@ -23,16 +24,16 @@ pub fn format_store(store: &mut [u32], g: Geometry, plan: Plan)
     write_head(store, g);
     let mut level = 1;
     while level < g.levels {
-        let start = plan.starts[level as usize] as usize;
-        write_first_page(store, start, level + 1 == g.levels);
+        let own = geometry::level_place(store, g, plan, level);
+        write_first_page(store, own.start as usize, level + 1 == g.levels);
         level += 1;
     }
 }
 
-// Erases all words, and writes the directory and the head's fence.
+// Erases the store, and writes the directory and the head's fence.
 fn write_head(store: &mut [u32], g: Geometry)
     requires { ⌜ InRange g ⌝ }
-    requires { ⌜ 12 ≤ length (now store) ⌝ }
+    requires { ⌜ headStart + wordsInSlot ≤ length (now store) ⌝ }
     ensures { λ _. ⌜ now (store .exit) ≡ headWritten g (now (store .entry)) ⌝ }
 {
     let end = store.len();
@@ -41,10 +42,10 @@ fn write_head(store: &mut [u32], g: Geometry)
     write_fence(store, geometry::HEAD_START);
 }
 
-// Writes the nine words before the head's slots.
+// Writes the words before the head's slots.
 fn write_directory(store: &mut [u32], g: Geometry)
     requires { ⌜ InRange g ⌝ }
-    requires { ⌜ 9 ≤ length (now store) ⌝ }
+    requires { ⌜ directoryWords ≤ length (now store) ⌝ }
     ensures { λ _. ⌜ now (store .exit) ≡ sets (now (store .entry)) 0 (directory g 0 (emptySlots g)) ⌝ }
 {
     store[geometry::HEAD] = g.head;
@@ -54,7 +55,7 @@ fn write_directory(store: &mut [u32], g: Geometry)
     store[geometry::PAGE_COUNTS + 1] = page_count(g, 1);
     store[geometry::PAGE_COUNTS + 2] = page_count(g, 2);
     store[geometry::PAGE_COUNTS + 3] = page_count(g, 3);
-    store[geometry::RESERVED] = 0;
+    store[geometry::MODE] = geometry::OPEN_MODE;
     store[geometry::HEAD_COUNT] = 1;
 }
 
@@ -68,7 +69,7 @@ fn page_count(g: Geometry, level: u32) -> u32
 
 // Writes the first page of a level that starts at a place: the fence alone, and nothing in the bottom.
 fn write_first_page(store: &mut [u32], start: usize, bottom: bool)
-    requires { ⌜ start + 64 ≤ length (now store) ⌝ }
+    requires { ⌜ start + wordsInPage ≤ length (now store) ⌝ }
     ensures { λ _. ⌜ now (store .exit) ≡ sets (now (store .entry)) start (pageFront (emptyRow bottom)) ⌝ }
 {
     if bottom {
@@ -81,7 +82,7 @@ fn write_first_page(store: &mut [u32], start: usize, bottom: bool)
 
 // Writes the fence with the least pair to page 0.
 fn write_fence(store: &mut [u32], place: usize)
-    requires { ⌜ place + 3 ≤ length (now store) ⌝ }
+    requires { ⌜ place + wordsInSlot ≤ length (now store) ⌝ }
     ensures { λ _. ⌜ now (store .exit) ≡ sets (now (store .entry)) place (wordsOf firstFence) ⌝ }
 {
     slot::write_slot(store, place, first_fence());

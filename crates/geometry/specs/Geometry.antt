@@ -9,17 +9,27 @@ use Rattle.geometry.specs.declared.Geometry.{Geometry}
 unfoldable pub between : ℕ → ℕ → ℕ → Bool
 between least most n = leb least n && leb n most
 
+-- The greatest H, k and l.
+abbrev pub mostHead : ℕ
+mostHead = 64
+
+abbrev pub mostRatio : ℕ
+mostRatio = 8
+
+abbrev pub mostLevels : ℕ
+mostLevels = 4
+
 -- Head capacity H is 1..64, ratio k is 2..8, levels l is 2..4: as a test, and as what the test shows.
 unfoldable pub inRange : Geometry → Bool
-inRange g = between 1 64 (g .head) && between 2 8 (g .ratio) && between 2 4 (g .levels)
+inRange g = between 1 mostHead (g .head) && between 2 mostRatio (g .ratio) && between 2 mostLevels (g .levels)
 
 pub record InRange (g : Geometry) : Type 0 where
   pub head-least : 1 ≤ g .head
-  pub head-most : g .head ≤ 64
+  pub head-most : g .head ≤ mostHead
   pub ratio-least : 2 ≤ g .ratio
-  pub ratio-most : g .ratio ≤ 8
+  pub ratio-most : g .ratio ≤ mostRatio
   pub levels-least : 2 ≤ g .levels
-  pub levels-most : g .levels ≤ 4
+  pub levels-most : g .levels ≤ mostLevels
 
 -- Level 0 is the head, level l − 1 the bottom.
 abbrev pub bottom : Geometry → ℕ

@@ -2,25 +2,27 @@
 -- numbers are then, and that every place lies inside the store. Assumes nothing.
 use Prim.Native.Nat.{ℕ, zero, suc, _+_, _*_, _≤_, _<_}
 use native.Mathlib.Omega.{arith}
-use mathlib.Core.Path.{_≡_}
+use mathlib.Core.Path.{_≡_, ap, _∙_}
 use mathlib.Core.List.{List}
 use lib.ListN.{length, getD}
 use Rattle.geometry.specs.declared.Geometry.{Geometry}
 use Rattle.geometry.specs.declared.Plan.{Plan}
+use Rattle.geometry.specs.declared.LevelPlace.{LevelPlace}
 use Rattle.geometry.specs.Geometry.{InRange, bottom, capacity, most, room, capacities, rooms}
-use Rattle.geometry.specs.Places.{headRoom, levelStart, pagePlace, planOf, storeWords}
+use Rattle.geometry.specs.Places.{directoryWords, headStart, wordsInSlot, wordsInPage, pagesWord, headRoom, levelStart, pagePlace, planOf, storeWords}
 use Rattle.geometry.specs.Bounds.{PlanSmall, within-is}
 use Rattle.geometry.specs.Apart.{plan-small, level-after, page-inside, level-inside}
+use Rattle.geometry.specs.Directory.{levelPlace, pages-of, place-start, place-none}
 
 pub record Lent (g : Geometry) (plan : Plan) (w : List ℕ) : Type 0 where
   pub in-range : InRange g
   pub planned : plan ≡ planOf g
   pub exact : length w ≡ storeWords g
   pub small : PlanSmall plan
-  pub nine : 9 ≤ length w
+  pub nine : directoryWords ≤ length w
 
 -- A store has at least its directory.
-nine-words : (g : Geometry) (w : List ℕ) → length w ≡ storeWords g → 9 ≤ length w
+nine-words : (g : Geometry) (w : List ℕ) → length w ≡ storeWords g → directoryWords ≤ length w
 unfolding storeWords levelStart
 nine-words g w e = omega arith
 
@@ -61,7 +63,7 @@ module _ (g : Geometry) (plan : Plan) (w : List ℕ) (l : Lent g plan w) where
   head-room-at = rw (l .planned)
 
   -- The head's slots and every page of a level's room lie inside the store.
-  pub head-lent : 9 + 3 * headRoom g ≤ length w
+  pub head-lent : headStart + wordsInSlot * headRoom g ≤ length w
   unfolding storeWords levelStart
   head-lent = omega (arith, l .exact)
 
@@ -69,26 +71,40 @@ module _ (g : Geometry) (plan : Plan) (w : List ℕ) (l : Lent g plan w) where
   unfolding storeWords pagePlace
   page-lent i p h b = omega (arith, l .exact, page-inside g i p b, level-inside g i (omega arith))
 
-  pub page-at : (i p : ℕ) → 1 ≤ i → i < g .levels → p < room g i →
-      (getD (plan .starts) i 0 + 64 * p ≡ pagePlace g i p) × (getD (plan .starts) i 0 + 64 * p + 64 ≤ length w)
+  pub page-at : (i p : ℕ) → i < g .levels → p < room g i → {place : LevelPlace} → place ≡ levelPlace g w i →
+      (place .start + wordsInPage * p ≡ pagePlace g i p) × (place .start + wordsInPage * p + wordsInPage ≤ length w)
   unfolding pagePlace
-  page-at i p k h b =
-      let s = starts-at i k (omega (arith, l .in-range .levels-most)) in
+  page-at i p h b e =
+      let s : _ ≡ levelStart g i = ap (λ (q : LevelPlace). q .start) e ∙ place-start g w i in
       (omega (arith, s), omega (arith, s, page-lent i p (omega (arith, l .in-range .levels-most)) b))
 
   pub head-least : 1 ≤ headRoom g
   unfolding headRoom
   head-least = omega (arith, l .in-range .head-least)
 
-  -- A level's room lies inside the store, and the next level begins where it ends.
-  pub room-at : (i : ℕ) → 1 ≤ i → i < g .levels →
-      (getD (plan .starts) i 0 + 64 * getD (plan .rooms) i 0 ≡ levelStart g (suc i)) × (getD (plan .starts) i 0 + 64 * getD (plan .rooms) i 0 ≤ length w)
-  unfolding storeWords
-  room-at i k h =
+  -- A level's room lies inside the store.
+  pub room-inside : (i : ℕ) → i < g .levels → {place : LevelPlace} → place ≡ levelPlace g w i → place .start + wordsInPage * place .room ≤ length w
+  unfolding storeWords levelPlace
+  room-inside i h e =
+      let three : i < 4 = omega (arith, l .in-range .levels-most) in
+      rw e (omega (arith, level-after g i, level-inside g i three, l .exact))
+
+  -- A store is small.
+  pub store-small : length w ≤ 600000
+  unfolding planOf
+  store-small = omega (arith, l .exact, ap (λ (p : Plan). p .«store_words») (l .planned), l .small .store-below)
+
+  -- Where a level stands, as the code reads it from the plan and the directory.
+  pub place-lent : (i : ℕ) → 1 ≤ i → i < g .levels → {start room : ℕ} → start ≡ getD (plan .starts) i 0 → room ≡ getD (plan .rooms) i 0 →
+      record { start = start; room = room; pages = getD w (pagesWord i) 0 } ≡ levelPlace g w i
+  unfolding levelPlace
+  place-lent i k h s r =
       let three : i ≤ 3 = omega (arith, l .in-range .levels-most) in
-      let s = starts-at i k three in
-      let r = rooms-at i three in
-      (omega (arith, s, r, level-after g i), omega (arith, s, r, level-after g i, level-inside g i (omega arith), l .exact))
+      rw (s, r, starts-at i k three, rooms-at i three, pages-of g w i h)
+
+  pub place-past : (i : ℕ) → g .levels ≤ i → i ≤ 4 → record { start = plan .«store_words»; room = 0; pages = 0 } ≡ levelPlace g w i
+  unfolding planOf
+  place-past i h b = rw (l .planned) (place-none g w i h b)
 
 -- The plan's store words.
 pub plan-words : (plan : Plan) (g : Geometry) → plan ≡ planOf g → plan .«store_words» ≡ storeWords g

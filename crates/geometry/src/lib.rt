@@ -1,10 +1,12 @@
 // Every number that follows from a geometry alone: capacities, page rooms, and where a store's words stand.
 ghost use Prim.Native.Nat.{_≤_, max};
 ghost use mathlib.Core.Path.{_≡_};
-ghost use lib.ListN.{getD};
+ghost use lib.ListN.{length, getD};
 ghost use Rattle.geometry.specs.Geometry.{InRange, inRange, between as Spec·between, within as Spec·within, roomOf, capacities as Spec·capacities, rooms as Spec·rooms};
-ghost use Rattle.geometry.specs.Places.{planOf};
+ghost use Rattle.geometry.specs.Places.{directoryWords, planOf};
 ghost use Rattle.geometry.specs.Bounds.{FourSmall, PlanSmall};
+ghost use Rattle.geometry.specs.Directory.{geometryOf, levelPlace};
+ghost use Rattle.geometry.specs.Lent.{Lent};
 
 // The directory's words. The page count of level i stands at PAGE_COUNTS + i, for i from 1 to 3.
 pub const HEAD: usize = 0;
@@ -17,11 +19,17 @@ pub const LIVE: usize = 3;
 
 pub const PAGE_COUNTS: usize = 3;
 
-pub const RESERVED: usize = 7;
+pub const MODE: usize = 7;
 
 pub const HEAD_COUNT: usize = 8;
 
 pub const HEAD_START: usize = 9;
+
+// A store of fewer words has no directory to read.
+pub const DIRECTORY_WORDS: usize = 9;
+
+// What the mode's word holds in a store that takes puts and drops.
+pub const OPEN_MODE: u32 = 0;
 
 // A slot's words, a page's words, its first slot's place and its slots; what an unused word holds.
 pub const SLOT_WORDS: usize = 3;
@@ -33,6 +41,13 @@ pub const FIRST_SLOT: usize = 1;
 pub const PAGE_SLOTS: u32 = 21;
 
 pub const ERASED: u32 = 4294967295;
+
+// The greatest H, k and l that a store may have.
+pub const MOST_HEAD: u32 = 64;
+
+pub const MOST_RATIO: u32 = 8;
+
+pub const MOST_LEVELS: u32 = 4;
 
 // The head's capacity H, the ratio k and the number of levels l.
 pub struct Geometry {
@@ -52,17 +67,58 @@ pub struct Plan {
     pub work_words: u32,
 }
 
+// Where a level below the head stands: the place of its first word, the pages that it has room for, and the pages that it has.
+pub struct LevelPlace {
+    pub start: u32,
+    pub room: u32,
+    pub pages: u32,
+}
+
+// The geometry in a store's directory.
+pub fn stored_geometry(store: &[u32]) -> Geometry
+    requires { ⌜ directoryWords ≤ length (now store) ⌝ }
+    ensures { λ r. ⌜ r ≡ geometryOf (now (store .entry)) ⌝ }
+{
+    Geometry {
+        head: store[HEAD],
+        ratio: store[RATIO],
+        levels: store[LEVELS],
+    }
+}
+
+// Where a level stands. Below the bottom there is a level of no pages at the store's end.
+pub fn level_place(store: &[u32], g: Geometry, plan: Plan, level: u32) -> LevelPlace
+    requires { ⌜ Lent g plan (now store) ⌝ }
+    requires { ⌜ (1 ≤ level) × (level ≤ 4) ⌝ }
+    ensures { λ r. ⌜ r ≡ levelPlace g (now (store .entry)) level ⌝ }
+{
+    if g.levels <= level {
+        return LevelPlace {
+            start: plan.store_words,
+            room: 0,
+            pages: 0,
+        };
+    }
+    let starts = plan.starts;
+    let rooms = plan.rooms;
+    LevelPlace {
+        start: at_level(starts, level),
+        room: at_level(rooms, level),
+        pages: store[PAGE_COUNTS + level as usize],
+    }
+}
+
 // Whether H is 1..64, k is 2..8 and l is 2..4.
 pub fn in_range(g: Geometry) -> bool
     ensures { λ r. ⌜ r ≡ inRange g ⌝ }
 {
-    if !between(1, 64, g.head) {
+    if !between(1, MOST_HEAD, g.head) {
         return false;
     }
-    if !between(2, 8, g.ratio) {
+    if !between(2, MOST_RATIO, g.ratio) {
         return false;
     }
-    between(2, 4, g.levels)
+    between(2, MOST_LEVELS, g.levels)
 }
 
 fn between(least: u32, most: u32, n: u32) -> bool

@@ -13,6 +13,7 @@ use Rattle.rules.specs.Tree.{Level}
 use Rattle.rules.specs.Level.{pagesFor, firstOf, fenceOf, fences, weave, paged, over}
 use Rattle.rules.specs.Woven.{by-weaving}
 use Rattle.rules.specs.Paged.{by-paging}
+use Rattle.geometry.specs.Places.{slotsInPage}
 
 -- Entries and fences woven are all of both.
 pub weave-length : (es : Level) (fs : List Slot) → length (weave es fs) ≡ length es + length fs
@@ -27,7 +28,7 @@ over-length es below =
 
 -- Written on from slot j of a page that holds c of the items so far, every page but the last holds 20 items at least.
 abbrev Economical : ℕ → List Slot → List Slot → Type 0
-Economical j ss row = (c : ℕ) → j ≤ 20 → j ≤ suc c → j ≤ 20 * c → (j + length row + 20) / 21 ≤ (c + length ss + 19) / 20
+Economical j ss row = (c : ℕ) → j ≤ 20 → j ≤ suc c → j ≤ 20 * c → (j + length row + 20) / slotsInPage ≤ (c + length ss + 19) / 20
 
 -- One slot for the item: in this page, or as the last of it.
 item-economical : (j : ℕ) (s : Slot) (ss row : List Slot) → Economical ((j + 1) % 21) ss row → Economical j (s ∷ ss) (s ∷ row)

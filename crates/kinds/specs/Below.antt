@@ -19,8 +19,8 @@ use Rattle.entries.specs.Run.{entriesIn}
 use Rattle.entries.specs.Levels.{AllInside, runsOf, treeIn, by-levels}
 use Rattle.entries.specs.Ascending.{levelsAscend, chain-first}
 use Rattle.entries.specs.Counts.{kindCount, count-none, count-normal, count-filter}
-use Rattle.kinds.specs.declared.Tally.{Tally}
-use Rattle.kinds.specs.Tally.{levelTally, treeTally}
+use Rattle.kinds.specs.declared.KindCounts.{KindCounts}
+use Rattle.kinds.specs.KindCounts.{levelCounts, treeCounts}
 use Rattle.kinds.specs.Standing.{rightOver, standsOver, topStands}
 
 -- A run of no pages, and the runs below the top one.
@@ -68,7 +68,7 @@ stands-alone (e ∷ es) = by-kind (e .normal) refl (stands-alone es)
     by-kind true q ih = rw (count-normal e es q .1) ih
     by-kind false q ih = rw (count-filter e es q .1) (ne-eqb (suc (kindCount false es)) 0 (λ x. omega (arith, x)))
 
-pub top-alone : (w : List ℕ) (rs : Runs) (n : Tally) → treeIn w (belowOf rs) ≡ noEntries → n ≡ levelTally (entriesIn w (rs .head)) → eqb (n .filters) 0 ≡ topStands (treeIn w rs)
+pub top-alone : (w : List ℕ) (rs : Runs) (n : KindCounts) → treeIn w (belowOf rs) ≡ noEntries → n ≡ levelCounts (entriesIn w (rs .head)) → eqb (n .filters) 0 ≡ topStands (treeIn w rs)
 top-alone w rs n none told = rw told (stands-alone (entriesIn w (rs .head)) ∙ rw (← none) (top-stands w rs))
 
 -- Every level of four stands right over those below it.
@@ -94,6 +94,6 @@ module _ (g : Geometry) (w : List ℕ) (fit : InRange g) (rs : Runs) (read : rs 
   pub alternates-told : (r : Bool) → r ≡ alternating (treeIn w rs) → r ≡ alternating (treeOf g w)
   alternates-told r e = e ∙ rw read (runs-alternate g w fit)
 
-  pub live-told : (live : ℕ) (n : Tally) (r : Bool) → n ≡ treeTally (treeIn w rs) → r ≡ eqb (live + n .filters) (n .normal) → r ≡ liveRight live (treeOf g w)
+  pub live-told : (live : ℕ) (n : KindCounts) (r : Bool) → n ≡ treeCounts (treeIn w rs) → r ≡ eqb (live + n .filters) (n .normal) → r ≡ liveRight live (treeOf g w)
   unfolding liveRight
   live-told live n r t e = e ∙ rw (t, read, runs-count g w fit true, runs-count g w fit false)

@@ -1,6 +1,6 @@
--- Each entry stands over the next of its pair below (Standing), live is the normal entries less the filters (Tally), the levels below the
+-- Each entry stands over the next of its pair below (Standing), live is the normal entries less the filters (KindCounts), the levels below the
 -- top one (Below), and what the code reads at spots (Spots).
 pub mod Standing
-pub mod Tally
+pub mod KindCounts
 pub mod Below
 pub mod Spots

@@ -5,8 +5,8 @@ ghost use mathlib.Core.Bool.{true, _&&_, Bool·beq};
 ghost use mathlib.Core.List.{[], _∷_};
 ghost use lib.ListN.{length, getD};
 ghost use lib.Dec.{eqb};
-ghost use Rattle.geometry.specs.Geometry.{InRange};
-ghost use Rattle.geometry.specs.Places.{planOf, storeWords, liveWord};
+ghost use Rattle.geometry.specs.Lent.{Lent};
+ghost use Rattle.geometry.specs.Places.{liveWord};
 ghost use Rattle.rules.specs.Sound.{treeOf, alternating, liveRight};
 ghost use Rattle.entries.specs.Run.{Inside, entriesIn};
 ghost use Rattle.entries.specs.Levels.{AllInside, PagesWithin, treeIn};
@@ -14,7 +14,7 @@ ghost use Rattle.entries.specs.Ascending.{levelsAscend};
 ghost use Rattle.entries.specs.Skip.{skipAll, pageFrom};
 ghost use Rattle.entries.specs.Spot.{upcoming, Standing, upcomings, AllStanding};
 ghost use Rattle.kinds.specs.Standing.{standsOver, topStands, decides, heldFirst};
-ghost use Rattle.kinds.specs.Tally.{TallySmall, levelTally, treeTally, filterKind};
+ghost use Rattle.kinds.specs.KindCounts.{CountsSmall, levelCounts, treeCounts, filterKind};
 ghost use Rattle.kinds.specs.Below.{belowOf, noEntries};
 use entries::Run;
 use entries::Runs;
@@ -25,19 +25,19 @@ use laws::one_if;
 use page::is_normal;
 use slot::Kind;
 use slot::Pair;
+use slot::Pid;
+use slot::SlotNo;
 use slot::read_slot;
 
 // The normal entries and the filters of a level or a tree.
-pub struct Tally {
+pub struct KindCounts {
     pub normal: u32,
     pub filters: u32,
 }
 
 // Whether each pair's entries alternate in kind from the top down with the lowest normal, and live is the normal entries less the filters.
 pub fn kinds_right(store: &[u32], g: Geometry, plan: Plan) -> bool
-    requires { ⌜ InRange g ⌝ }
-    requires { ⌜ plan ≡ planOf g ⌝ }
-    requires { ⌜ length (now store) ≡ storeWords g ⌝ }
+    requires { ⌜ Lent g plan (now store) ⌝ }
     requires { ⌜ PagesWithin g (now store) ⌝ }
     requires { ⌜ levelsAscend (treeOf g (now store)) ≡ true ⌝ }
     ensures { λ r. ⌜ r ≡ (alternating (treeOf g (now (store .entry))) && liveRight (getD (now (store .entry)) liveWord 0) (treeOf g (now (store .entry)))) ⌝ }
@@ -46,71 +46,71 @@ pub fn kinds_right(store: &[u32], g: Geometry, plan: Plan) -> bool
     if !alternates(store, runs) {
         return false;
     }
-    live_right(store[geometry::LIVE], tally_of(store, runs))
+    live_right(store[geometry::LIVE], count_kinds(store, runs))
 }
 
 // Whether live and the filters make the normal entries.
-pub fn live_right(live: u32, tally: Tally) -> bool
-    ensures { λ r. ⌜ r ≡ eqb (live + tally .filters) (tally .normal) ⌝ }
+pub fn live_right(live: u32, counts: KindCounts) -> bool
+    ensures { λ r. ⌜ r ≡ eqb (live + counts .filters) (counts .normal) ⌝ }
 {
-    live as u64 + tally.filters as u64 == tally.normal as u64
+    live as u64 + counts.filters as u64 == counts.normal as u64
 }
 
 // The normal entries and the filters of four runs.
-pub fn tally_of(words: &[u32], runs: Runs) -> Tally
+pub fn count_kinds(words: &[u32], runs: Runs) -> KindCounts
     requires { ⌜ AllInside runs (length (now words)) ⌝ }
-    ensures { λ r. ⌜ r ≡ treeTally (treeIn (now (words .entry)) runs) ⌝ }
+    ensures { λ r. ⌜ r ≡ treeCounts (treeIn (now (words .entry)) runs) ⌝ }
 {
     let run = runs.head;
-    let head = tally_run(words, run);
+    let head = count_run(words, run);
     let run = runs.first;
-    let first = tally_run(words, run);
+    let first = count_run(words, run);
     let run = runs.second;
-    let second = tally_run(words, run);
+    let second = count_run(words, run);
     let run = runs.third;
-    let third = tally_run(words, run);
-    Tally {
+    let third = count_run(words, run);
+    KindCounts {
         normal: head.normal + (first.normal + (second.normal + third.normal)),
         filters: head.filters + (first.filters + (second.filters + third.filters)),
     }
 }
 
-// Those of one run.
-fn tally_run(words: &[u32], run: Run) -> Tally
+// The normal entries and the filters of a run.
+fn count_run(words: &[u32], run: Run) -> KindCounts
     requires { ⌜ Inside run (length (now words)) ⌝ }
-    ensures exact { λ r. ⌜ r ≡ levelTally (entriesIn (now (words .entry)) run) ⌝ }
-    ensures small { λ r. ⌜ TallySmall r ⌝ }
+    ensures exact { λ r. ⌜ r ≡ levelCounts (entriesIn (now (words .entry)) run) ⌝ }
+    ensures small { λ r. ⌜ CountsSmall r ⌝ }
 {
     let mut normal: u32 = 0;
     let mut filters: u32 = 0;
     let mut page: u32 = 0;
     while page < run.pages {
-        let tally = tally_page(words, run, page);
-        normal += tally.normal;
-        filters += tally.filters;
+        let counts = count_page(words, run, Pid(page));
+        normal += counts.normal;
+        filters += counts.filters;
         page += 1;
     }
-    Tally { normal, filters }
+    KindCounts { normal, filters }
 }
 
-// Those of one of its pages.
-fn tally_page(words: &[u32], run: Run, page: u32) -> Tally
+// The normal entries and the filters of a page of a run.
+fn count_page(words: &[u32], run: Run, page: Pid) -> KindCounts
     requires { ⌜ Inside run (length (now words)) ⌝ }
-    requires { ⌜ page < run .pages ⌝ }
-    ensures { λ r. ⌜ r ≡ levelTally (pageFrom (now (words .entry)) run page 0) ⌝ }
+    requires { ⌜ page .0 < run .pages ⌝ }
+    ensures { λ r. ⌜ r ≡ levelCounts (pageFrom (now (words .entry)) run (page .0) 0) ⌝ }
 {
     let slots = entries::count_in(words, run, page);
     let mut normal: u32 = 0;
     let mut filters: u32 = 0;
     let mut slot: u32 = 0;
     while slot < slots {
-        let read = read_slot(words, entries::place_in(run, page, slot));
+        let read = read_slot(words, entries::place_in(run, page, SlotNo(slot)));
         let kind = read.kind;
         normal += one_if(is_normal(kind));
         filters += one_if(is_filter(kind));
         slot += 1;
     }
-    Tally { normal, filters }
+    KindCounts { normal, filters }
 }
 
 // Whether a slot's kind is a filter's.
@@ -175,8 +175,8 @@ fn top_stands(words: &[u32], runs: Runs) -> bool
     let top = runs.head;
     let lower = below(runs);
     if all_empty(words, lower) {
-        let tally = tally_run(words, top);
-        return tally.filters == 0;
+        let counts = count_run(words, top);
+        return counts.filters == 0;
     }
     stands_over(words, top, lower)
 }

@@ -7,18 +7,14 @@ use mathlib.Core.List.{List}
 use Rattle.geometry.specs.declared.Geometry.{Geometry}
 use Rattle.geometry.specs.Geometry.{inRange}
 use Rattle.slot.specs.declared.Pair.{Pair}
-use Rattle.index.specs.Reply.{Reply}
-use Rattle.index.specs.List.{Filled}
-use Rattle.index.specs.Edit.{Kept}
+use Rattle.opening.specs.Reply.{Reply, Filled}
+use Rattle.call_put.specs.Edit.{Kept}
 
 abbrev pub pairOf : ℕ → ℕ → Pair
 pairOf badge floor = record { badge = badge; floor = record { 0 = floor } }
 
 abbrev pub geometryFrom : ℕ → ℕ → ℕ → Geometry
 geometryFrom h k l = record { head = h; ratio = k; levels = l }
-
-abbrev pub replied : ℕ → List ℕ → Reply
-replied number values = record { number = number; values = values }
 
 -- A number of words that a geometry fixes, 0 outside the ranges.
 unfoldable pub wordsFor : (Geometry → ℕ) → Geometry → ℕ

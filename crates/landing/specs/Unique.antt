@@ -4,13 +4,12 @@ use mathlib.Core.Path.{_≡_, sym, ap, _∙_}
 use mathlib.Core.List.{List}
 use Rattle.geometry.specs.declared.Geometry.{Geometry}
 use Rattle.slot.specs.declared.Pair.{Pair}
-use Rattle.index.specs.Reply.{Reply}
-use Rattle.index.specs.Ask.{askOf}
-use Rattle.index.specs.Check.{checkOf}
-use Rattle.index.specs.List.{Filled, filled, listOf}
-use Rattle.index.specs.Format.{formatOf}
-use Rattle.index.specs.Edit.{Kept, kept, putOf, dropOf}
-use Rattle.landing.specs.Numbers.{replied}
+use Rattle.opening.specs.Reply.{Reply, replied, Filled, filled}
+use Rattle.call_ask.specs.Ask.{askOf}
+use Rattle.call_check.specs.Check.{checkOf}
+use Rattle.call_check.specs.List.{listOf}
+use Rattle.call_format.specs.Format.{formatOf}
+use Rattle.call_put.specs.Edit.{Kept, kept, putOf, dropOf}
 
 module _ (r s : ℕ) (a b : List ℕ) where
   -- A reply, one with the words of a slice, and one with the words of store and work area, each told twice.

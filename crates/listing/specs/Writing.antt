@@ -15,7 +15,7 @@ use Rattle.slot.specs.declared.Pair.{Pair}
 use Rattle.rules.specs.Tree.{Tree}
 use Rattle.rules.specs.Listing.{heldBetween, pairWords, Listed, list}
 
--- 1 exactly if a slice of so many words has no room for two more words after n pairs.
+-- 1 exactly if a slice of `words` words has no room for two more words after n pairs.
 unfoldable pub markOf : ℕ → ℕ → ℕ
 markOf words n = elim (ltb words (2 * n + 2)) [ true ↦ 1 | false ↦ 0 ]
 

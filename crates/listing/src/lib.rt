@@ -3,8 +3,7 @@ ghost use Prim.Native.Nat.{_+_, _≤_};
 ghost use mathlib.Core.Path.{_≡_};
 ghost use mathlib.Core.Bool.{true};
 ghost use lib.ListN.{length, set};
-ghost use Rattle.geometry.specs.Geometry.{InRange};
-ghost use Rattle.geometry.specs.Places.{planOf, storeWords};
+ghost use Rattle.geometry.specs.Lent.{Lent};
 ghost use Rattle.rules.specs.Sound.{treeOf};
 ghost use Rattle.rules.specs.Listing.{list as listing};
 ghost use Rattle.entries.specs.Run.{Inside, entry as indexed};
@@ -43,9 +42,7 @@ pub fn list_pairs(
     second: Pair,
     list: &mut [u32],
 ) -> Listed
-    requires { ⌜ InRange g ⌝ }
-    requires { ⌜ plan ≡ planOf g ⌝ }
-    requires { ⌜ length (now store) ≡ storeWords g ⌝ }
+    requires { ⌜ Lent g plan (now store) ⌝ }
     requires { ⌜ PagesWithin g (now store) ⌝ }
     requires { ⌜ levelsAscend (treeOf g (now store)) ≡ true ⌝ }
     ensures { λ r. ⌜ told r (now (list .exit)) ≡ listing first second (treeOf g (now (store .entry))) (now (list .entry)) ⌝ }
@@ -54,7 +51,7 @@ pub fn list_pairs(
     list_runs(store, runs, first, second, list)
 }
 
-// The same of four runs whose levels ascend.
+// Writes the held pairs from first to second of four runs whose levels ascend into the list.
 fn list_runs(store: &[u32], runs: Runs, first: Pair, second: Pair, list: &mut [u32]) -> Listed
     requires { ⌜ AllInside runs (length (now store)) ⌝ }
     requires { ⌜ levelsAscend (treeIn (now store) runs) ≡ true ⌝ }

@@ -11,11 +11,12 @@ use borrow.Author.Tests.{ltb-true}
 use Rattle.laws.specs.Lists.{span, all-three}
 use Rattle.geometry.specs.declared.Geometry.{Geometry}
 use Rattle.geometry.specs.Geometry.{room}
-use Rattle.geometry.specs.Places.{pageWords, headRoom, pagePlace}
+use Rattle.geometry.specs.Places.{wordsInPage, headRoom, pagePlace, headWord, ratioWord, levelsWord, liveWord, pagesWord, modeWord, headCountWord, headStart, directoryWords}
 use Rattle.geometry.specs.Apart.{first-slot}
 use Rattle.slot.specs.declared.Pair.{Pair}
 use Rattle.slot.specs.Slot.{slotAt}
-use Rattle.rules.specs.Sound.{geometryOf, pagesOf, slotsFrom, headSlots, countAt, pageSlots, pagesRight, directoryRight, headRight, countRight, pageFormed, pageRight}
+use Rattle.rules.specs.Sound.{slotsFrom, headSlots, countAt, pageSlots, pagesRight, directoryRight, headRight, countRight, pageFormed, pageRight}
+use Rattle.geometry.specs.Directory.{geometryOf, pagesOf}
 use Rattle.walk.specs.Step.{headStep, pageStep}
 
 -- Two stores agree on the n words from a place on.
@@ -25,7 +26,7 @@ Same w v from n = (i : ℕ) → from ≤ i → i < from + n → getD w i 0 ≡ g
 -- They agree on pages, the first one of level i, each further one of the level below.
 abbrev pub SamePages : Geometry → List ℕ → List ℕ → ℕ → List ℕ → Type 0
 SamePages g w v i [] = Unit {0}
-SamePages g w v i (p ∷ ps) = Same w v (pagePlace g i p) pageWords × SamePages g w v (suc i) ps
+SamePages g w v i (p ∷ ps) = Same w v (pagePlace g i p) wordsInPage × SamePages g w v (suc i) ps
 
 -- A run of slots.
 module _ (w v : List ℕ) where
@@ -45,18 +46,18 @@ module _ (w v : List ℕ) where
   same-slots from count n same h = same-span from count 0 n same (omega arith)
 
 -- The directory, words 0..8.
-module _ (w v : List ℕ) (same : Same w v 0 9) where
-  same-word : (i : ℕ) → i < 9 → getD w i 0 ≡ getD v i 0
+module _ (w v : List ℕ) (same : Same w v 0 directoryWords) where
+  same-word : (i : ℕ) → i < directoryWords → getD w i 0 ≡ getD v i 0
   same-word i h = same i (omega arith) (omega arith)
 
   pub same-geometry : geometryOf w ≡ geometryOf v
   unfolding geometryOf
-  same-geometry = rw (same-word 0 (omega arith), same-word 1 (omega arith), same-word 2 (omega arith))
+  same-geometry = rw (same-word headWord (omega arith), same-word ratioWord (omega arith), same-word levelsWord (omega arith))
 
   module _ (g : Geometry) where
     same-pages-right : (i : ℕ) → i ≤ 3 → pagesRight g w i ≡ pagesRight g v i
     unfolding pagesRight
-    same-pages-right i h = ap counted (same-word (3 + i) (omega arith))
+    same-pages-right i h = ap counted (same-word (pagesWord i) (omega arith))
       where
         counted : ℕ → Bool
         counted n = elim (ltb i (g .levels)) [ true ↦ leb 1 n && leb n (room g i) | false ↦ eqb n 0 ]
@@ -70,8 +71,8 @@ module _ (w v : List ℕ) (same : Same w v 0 9) where
           same-pages-right 1 (omega arith),
           same-pages-right 2 (omega arith),
           same-pages-right 3 (omega arith),
-          same-word 3 (omega arith),
-          same-word 7 (omega arith),
+          same-word liveWord (omega arith),
+          same-word modeWord (omega arith),
         )
 
     -- Page counts of levels that exist.
@@ -83,20 +84,20 @@ module _ (w v : List ℕ) (same : Same w v 0 9) where
           counted : Bool → ℕ → ℕ
           counted b n = elim b [ true ↦ n | false ↦ 0 ]
 
-          by : (b : Bool) → ltb i (g .levels) ≡ b → counted b (getD w (3 + i) 0) ≡ counted b (getD v (3 + i) 0)
-          by true e = same-word (3 + i) (omega (arith, ltb-true i (g .levels) e))
+          by : (b : Bool) → ltb i (g .levels) ≡ b → counted b (getD w (pagesWord i) 0) ≡ counted b (getD v (pagesWord i) 0)
+          by true e = same-word (pagesWord i) (omega (arith, ltb-true i (g .levels) e))
           by false e = refl
 
       -- The head.
-      module _ (head : Same w v 9 (3 * headRoom g)) (asked : Pair) where
+      module _ (head : Same w v headStart (3 * headRoom g)) (asked : Pair) where
         same-head : headSlots g w ≡ headSlots g v
         unfolding headSlots
         same-head =
-            rw (same-word 8 (omega arith)) (same-slots w v 9 (headRoom g) (min (getD v 8 0) (headRoom g)) head (min-le-right (getD v 8 0) (headRoom g)))
+            rw (same-word headCountWord (omega arith)) (same-slots w v headStart (headRoom g) (min (getD v headCountWord 0) (headRoom g)) head (min-le-right (getD v headCountWord 0) (headRoom g)))
 
         pub same-head-step : headStep g w asked ≡ headStep g v asked
         unfolding headStep headRight
-        same-head-step = rw (same-head, same-word 8 (omega arith), same-count 1)
+        same-head-step = rw (same-head, same-word headCountWord (omega arith), same-count 1)
 
       -- A page of level i, 64 words.
       module _ (asked : Pair) (i p : ℕ) (page : Same w v (pagePlace g i p) 64) where

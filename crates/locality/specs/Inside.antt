@@ -7,24 +7,25 @@ use mathlib.Core.List.{List, [], _∷_}
 use lib.ListN.{length}
 use Rattle.geometry.specs.declared.Geometry.{Geometry}
 use Rattle.geometry.specs.Geometry.{bottom, room}
-use Rattle.geometry.specs.Places.{pagePlace, storeWords}
+use Rattle.geometry.specs.Places.{pagePlace, storeWords, wordsInPage}
 use Rattle.geometry.specs.Apart.{page-inside, level-inside}
 use Rattle.slot.specs.declared.Pair.{Pair}
 use Rattle.slot.specs.Slot.{slotAt}
-use Rattle.rules.specs.Sound.{geometryOf, pagesOf, directoryRight, headRight, pageFormed}
+use Rattle.rules.specs.Sound.{directoryRight, headRight, pageFormed}
+use Rattle.geometry.specs.Directory.{geometryOf, pagesOf}
 use Rattle.walk.specs.declared.Step.{Step}
 use Rattle.walk.specs.declared.Step.the-variants.{Decided, Follow, Nothing, Broken}
-use Rattle.walk.specs.Passes.{fenceUpTo}
+use Rattle.form.specs.Passes.{fenceUpTo}
 use Rattle.walk.specs.Step.{headStep, pageStep, StepWithin}
 use Rattle.walk.specs.Read.{head-broken, head-tells, head-within, page-broken, page-first-broken, page-tells, page-within}
-use Rattle.walk.specs.Walk.{pages-in-room}
-use Rattle.index.specs.Opening.{opening, opened-range, opened-length}
+use Rattle.rules.specs.Directed.{pages-most}
+use Rattle.opening.specs.Opening.{opening, opened-range, opened-length}
 use Rattle.locality.specs.Reads.{readOn, walkReads, unlessNone, pagesRead}
 
 -- Pages of level i and of the levels below it, each in its level's room and inside n words.
 abbrev pub PagesInside : Geometry → ℕ → ℕ → List ℕ → Type 0
 PagesInside g n i [] = Unit {0}
-PagesInside g n i (p ∷ ps) = (p < room g i) × (pagePlace g i p + 64 ≤ n) × PagesInside g n (suc i) ps
+PagesInside g n i (p ∷ ps) = (p < room g i) × (pagePlace g i p + wordsInPage ≤ n) × PagesInside g n (suc i) ps
 
 -- A page that a level tells to follow is one that the level below has.
 module _ (g : Geometry) (w : List ℕ) (asked : Pair) where
@@ -49,7 +50,7 @@ module _ (g : Geometry) (w : List ℕ) (asked : Pair) where
     read-inside : (i p : ℕ) → suc i < g .levels → p < pagesOf g w (suc i) → (p < room g (suc i)) × (pagePlace g (suc i) p + 64 ≤ n)
     unfolding pagePlace
     read-inside i p h k =
-        let fits : p < room g (suc i) = omega (arith, k, pages-in-room g w (suc i) four right (omega arith) h) in
+        let fits : p < room g (suc i) = omega (arith, k, pages-most g w right (suc i) (omega arith) (omega arith) h) in
         (fits, omega (arith, exact, page-inside g (suc i) p fits, level-inside g (suc i) (omega arith)))
 
     reads-inside : (m i : ℕ) (s : Step) → i + m < g .levels → (1 ≤ m → StepWithin (pagesOf g w (suc i)) s) → PagesInside g n (suc i) (readOn g w asked m i s)

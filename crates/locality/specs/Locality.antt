@@ -5,14 +5,14 @@ use mathlib.Core.Path.{_≡_, refl, sym, ap, _∙_}
 use mathlib.Core.List.{List}
 use lib.ListN.{length}
 use Rattle.geometry.specs.Geometry.{bottom}
-use Rattle.geometry.specs.Places.{headStart, slotWords, headRoom}
+use Rattle.geometry.specs.Places.{headStart, wordsInSlot, headRoom}
 use Rattle.slot.specs.declared.Pair.{Pair}
-use Rattle.rules.specs.Sound.{geometryOf}
+use Rattle.geometry.specs.Directory.{geometryOf}
 use Rattle.walk.specs.Walk.{walked}
-use Rattle.index.specs.declared.Asked.{Asked}
-use Rattle.index.specs.Reply.{Reply}
-use Rattle.index.specs.Opening.{openTests, opening, opened-range}
-use Rattle.index.specs.Ask.{askReply, walkReply, askOf, ask-refused, ask-walked}
+use Rattle.call_ask.specs.declared.Asked.{Asked}
+use Rattle.opening.specs.Reply.{Reply}
+use Rattle.opening.specs.Opening.{openTests, opening, opened-range}
+use Rattle.call_ask.specs.Ask.{askReply, walkReply, askOf, ask-refused, ask-walked}
 use Rattle.replies.specs.Unique.{ask-has-one-answer}
 use Rattle.locality.specs.Reads.{walkReads, unlessNone, pagesRead, reads-few}
 use Rattle.locality.specs.Inside.{PagesInside, reads-lie-inside}
@@ -23,7 +23,7 @@ use Rattle.locality.specs.Walks.{same-walk}
 pub record AgreeFor (asked : Pair) (w v : List ℕ) : Type 0 where
   pub one-length : length w ≡ length v
   pub directory : Same w v 0 headStart
-  pub head : Same w v headStart (slotWords * headRoom (geometryOf w))
+  pub head : Same w v headStart (wordsInSlot * headRoom (geometryOf w))
   pub pages : SamePages (geometryOf w) w v 1 (pagesRead w asked)
 
 -- There is at most one such page in each lower level, and each lies inside the store.
@@ -50,9 +50,9 @@ module _ (asked : Pair) (w v : List ℕ) (agree : AgreeFor asked w v) where
     where
       by : (n : ℕ) → opening w ≡ n → askOf w asked ≡ askOf v asked
       by zero e =
-          sym (ask-walked w asked (sym e)) ∙ ap walkReply (same-walks e .0 ∙ ap (λ g. walked g v asked) (same-geometry w v (agree .directory))) ∙
-          ask-walked v asked (sym (sym same-opening ∙ e))
-      by (suc n) e = sym (ask-refused w asked n (sym e)) ∙ ask-refused v asked n (sym (sym same-opening ∙ e))
+          sym (ask-walked w asked e) ∙ ap walkReply (same-walks e .0 ∙ ap (λ g. walked g v asked) (same-geometry w v (agree .directory))) ∙
+          ask-walked v asked (sym same-opening ∙ e)
+      by (suc n) e = sym (ask-refused w asked n e) ∙ ask-refused v asked n (sym same-opening ∙ e)
 
   pub reads-local : pagesRead w asked ≡ pagesRead v asked
   unfolding pagesRead

@@ -8,11 +8,12 @@ use lib.ListN.{length}
 use Rattle.geometry.specs.declared.Geometry.{Geometry}
 use Rattle.geometry.specs.Geometry.{bottom}
 use Rattle.slot.specs.declared.Pair.{Pair}
-use Rattle.rules.specs.Sound.{geometryOf, directoryRight}
+use Rattle.rules.specs.Sound.{directoryRight}
+use Rattle.geometry.specs.Directory.{geometryOf}
 use Rattle.walk.specs.declared.Step.{Step}
 use Rattle.walk.specs.declared.Step.the-variants.{Decided, Follow, Nothing, Broken}
 use Rattle.walk.specs.Step.{headStep, pageStep}
-use Rattle.index.specs.Opening.{opening}
+use Rattle.opening.specs.Opening.{opening}
 
 -- The pages from level i + 1 on, of n levels, by what level i told.
 unfoldable pub readOn : Geometry → List ℕ → Pair → ℕ → ℕ → Step → List ℕ

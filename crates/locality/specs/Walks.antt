@@ -6,9 +6,9 @@ use mathlib.Core.Bool.{Bool, true, false, cond}
 use mathlib.Core.List.{List, [], _∷_}
 use Rattle.geometry.specs.declared.Geometry.{Geometry}
 use Rattle.geometry.specs.Geometry.{bottom}
-use Rattle.geometry.specs.Places.{headRoom}
+use Rattle.geometry.specs.Places.{headRoom, headStart, directoryWords}
 use Rattle.slot.specs.declared.Pair.{Pair}
-use Rattle.rules.specs.Sound.{directoryRight}
+use Rattle.rules.specs.Sound.{directoryRight, inLevel}
 use Rattle.walk.specs.declared.Step.{Step}
 use Rattle.walk.specs.declared.Step.the-variants.{Decided, Follow, Nothing, Broken}
 use Rattle.walk.specs.declared.Walked.{Walked}
@@ -18,7 +18,7 @@ use Rattle.walk.specs.Walk.{walkOn, walked}
 use Rattle.locality.specs.Reads.{readOn, walkReads}
 use Rattle.locality.specs.Agree.{Same, SamePages, same-directory, same-head-step, same-page-step}
 
-module _ (g : Geometry) (w v : List ℕ) (asked : Pair) (four : g .levels ≤ 4) (directory : Same w v 0 9) where
+module _ (g : Geometry) (w v : List ℕ) (asked : Pair) (four : g .levels ≤ 4) (directory : Same w v 0 directoryWords) where
   -- From what level i told on.
   same-walk-on : (n i : ℕ) (s : Step) → SamePages g w v (suc i) (readOn g w asked n i s) →
       (walkOn g w asked n i s ≡ walkOn g v asked n i s) × (readOn g w asked n i s ≡ readOn g v asked n i s)
@@ -37,7 +37,7 @@ module _ (g : Geometry) (w v : List ℕ) (asked : Pair) (four : g .levels ≤ 4)
   same-walk-on (suc n) i Nothing same = (refl, refl)
   same-walk-on (suc n) i Broken same = (refl, refl)
 
-  pub same-walk : Same w v 9 (3 * headRoom g) → SamePages g w v 1 (walkReads g w asked) →
+  pub same-walk : Same w v headStart (3 * headRoom g) → SamePages g w v 1 (walkReads g w asked) →
       (walked g w asked ≡ walked g v asked) × (walkReads g w asked ≡ walkReads g v asked)
   unfolding walked walkReads
   same-walk head pages = rw (← (same-directory w v directory g)) (by (directoryRight g w) pages)
@@ -49,7 +49,7 @@ module _ (g : Geometry) (w v : List ℕ) (asked : Pair) (four : g .levels ≤ 4)
       reading x = readOn g x asked (bottom g) 0 (headStep g x asked)
 
       by : (b : Bool) → SamePages g w v 1 (cond b (reading w) []) →
-          (cond b (walking w) (Fault 0) ≡ cond b (walking v) (Fault 0)) × (cond b (reading w) [] ≡ cond b (reading v) [])
+          (cond b (walking w) (Fault (inLevel 0)) ≡ cond b (walking v) (Fault (inLevel 0))) × (cond b (reading w) [] ≡ cond b (reading v) [])
       by true same =
           let step = same-head-step w v directory g four head asked in
           let rest = same-walk-on (bottom g) 0 (headStep g w asked) same in

@@ -17,7 +17,8 @@ use Rattle.rules.specs.Tree.{Level}
 use Rattle.rules.specs.Level.{pagesFor, fences}
 use Rattle.rules.specs.Merging.{join}
 use Rattle.rules.specs.Store.{runWords, levelWords}
-use Rattle.rules.specs.Sound.{pagesOf, firstAt, levelLaid, ascending}
+use Rattle.rules.specs.Sound.{firstAt, levelLaid, ascending}
+use Rattle.geometry.specs.Directory.{pagesOf}
 use Rattle.entries.specs.declared.Run.{Run}
 use Rattle.entries.specs.Run.{entriesIn}
 use Rattle.entries.specs.Levels.{PagesWithin, headRun, levelRun}

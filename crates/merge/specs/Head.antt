@@ -17,9 +17,10 @@ use Rattle.slot.specs.declared.Slot.{Slot}
 use Rattle.slot.specs.Slot.{slotAt, wordsOf}
 use Rattle.rules.specs.Level.{external, fenceOf, fences}
 use Rattle.rules.specs.Store.{runWords}
-use Rattle.rules.specs.Sound.{pagesOf, firstAt}
-use Rattle.written.specs.Run.{wordsOfAll, words-length}
-use Rattle.written.specs.Written.{firstPair}
+use Rattle.rules.specs.Sound.{firstAt}
+use Rattle.geometry.specs.Directory.{pagesOf}
+use Rattle.layout.specs.Run.{wordsOfAll, words-length}
+use Rattle.layout.specs.Words.{firstPair}
 use Rattle.written.specs.Parts.{first-at}
 use Rattle.merge.specs.Filling.{headPut, headRebuilt}
 

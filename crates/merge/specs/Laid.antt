@@ -18,10 +18,11 @@ use Rattle.rules.specs.Tree.{Level, Tree, level}
 use Rattle.rules.specs.Level.{index, pagesFor, fenceOf, fences, firstOf, weave, paged, over, layOn, laid, headOn}
 use Rattle.rules.specs.Merging.{pagesWritten}
 use Rattle.rules.specs.Store.{laidOut}
-use Rattle.rules.specs.Sound.{pagesOf, firstAt, levelLaid}
+use Rattle.rules.specs.Sound.{firstAt, levelLaid}
+use Rattle.geometry.specs.Directory.{pagesOf, pages-none}
 use Rattle.rules.specs.Good.{SlotsFit, Fits}
 use Rattle.rules.specs.Reading.{Reads}
-use Rattle.entries.specs.Levels.{PagesWithin, pages-none}
+use Rattle.entries.specs.Levels.{PagesWithin}
 use Rattle.stored.specs.Parts.{Parts, laid-parts}
 use Rattle.stored.specs.Reading.{reads-back}
 use Rattle.stored.specs.Over.{laid-bare, woven-over, laid-over}

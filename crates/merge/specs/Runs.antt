@@ -1,19 +1,20 @@
 -- The runs of levels by their number lie inside the store, and the pages of level 1 behind the head. Assumes nothing.
 use Prim.Native.Nat.{ℕ, zero, suc, _+_, _*_, _≤_, _<_}
 use native.Mathlib.Omega.{arith}
-use mathlib.Core.Path.{_≡_, sym}
+use mathlib.Core.Path.{_≡_, refl}
 use mathlib.Core.List.{List}
-use lib.ListN.{length, getD}
+use lib.ListN.{length}
 use Rattle.geometry.specs.declared.Geometry.{Geometry}
 use Rattle.geometry.specs.declared.Plan.{Plan}
+use Rattle.geometry.specs.declared.LevelPlace.{LevelPlace}
 use Rattle.geometry.specs.Geometry.{room}
-use Rattle.geometry.specs.Places.{headStart, headRoom, levelStart, storeWords}
+use Rattle.geometry.specs.Places.{headStart, wordsInSlot, wordsInPage, headRoom, levelStart, storeWords}
 use Rattle.geometry.specs.Bounds.{room-small}
 use Rattle.geometry.specs.Apart.{level-one, level-after, level-inside}
-use Rattle.geometry.specs.Lent.{Lent, starts-at}
-use Rattle.rules.specs.Sound.{pagesOf}
+use Rattle.geometry.specs.Lent.{Lent, head-room-at}
+use Rattle.geometry.specs.Directory.{pagesOf, levelPlace}
 use Rattle.entries.specs.Run.{Inside}
-use Rattle.entries.specs.Levels.{PagesWithin, runsOf, pages-there, runs-inside}
+use Rattle.entries.specs.Levels.{PagesWithin, runsOf, runs-inside}
 use Rattle.merge.specs.Filling.{runAt}
 
 pub run-inside : (g : Geometry) (plan : Plan) (w : List ℕ) → Lent g plan w → PagesWithin g w → (i : ℕ) → i < g .levels → Inside (runAt g w i) (length w)
@@ -32,23 +33,26 @@ pub record HeadPlaces (g : Geometry) (w : List ℕ) (pages below : ℕ) : Type 0
   pub counted : pages ≡ pagesOf g w 1
   pub starts : below ≡ levelStart g 1
   pub few : pages ≤ headRoom g
-  pub apart : headStart + 3 * pages ≤ below
-  pub inside : below + 64 * pages ≤ length w
+  pub apart : headStart + wordsInSlot * pages ≤ below
+  pub inside : below + wordsInPage * pages ≤ length w
   pub small : pages ≤ 2000
 
-pub head-places : (g : Geometry) (plan : Plan) (w : List ℕ) → Lent g plan w → PagesWithin g w → HeadPlaces g w (getD w 4 0) (getD (plan .starts) 1 0)
-unfolding headRoom storeWords
-head-places g plan w l b =
+pub head-places : (g : Geometry) (plan : Plan) (w : List ℕ) → Lent g plan w → PagesWithin g w → {place : LevelPlace} → place ≡ levelPlace g w 1 →
+    HeadPlaces g w (place .pages) (place .start)
+unfolding headRoom storeWords levelPlace
+head-places g plan w l b e =
     let fit = l .in-range in
-    let one : 1 < g .levels = omega (arith, fit .levels-least) in
-    let counted : pagesOf g w 1 ≡ getD w 4 0 = pages-there g w 1 one in
-    let starts : getD (plan .starts) 1 0 ≡ levelStart g 1 = starts-at g plan w l 1 (omega arith) (omega arith) in
-    let few : getD w 4 0 ≤ room g 1 = omega (arith, counted, b .first) in
-    record {
-      counted = sym counted;
-      starts = starts;
+    let few : pagesOf g w 1 ≤ room g 1 = b .first in
+    rw e (record {
+      counted = refl;
+      starts = refl;
       few = omega arith;
-      apart = omega (arith, few, starts, level-one g);
-      inside = omega (arith, few, starts, l .exact, level-after g 1, level-inside g 1 (omega arith));
+      apart = omega (arith, few, level-one g);
+      inside = omega (arith, few, l .exact, level-after g 1, level-inside g 1 (omega arith));
       small = omega (arith, few, room-small g fit 1);
-    }
+    })
+
+-- The head's slots end where level 1 begins.
+pub head-end : (g : Geometry) (plan : Plan) (w : List ℕ) → Lent g plan w → headStart + wordsInSlot * plan .«head_room» ≡ levelStart g 1
+unfolding headRoom
+head-end g plan w l = rw (head-room-at g plan w l) (level-one g)

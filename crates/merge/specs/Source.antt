@@ -5,32 +5,35 @@ use native.Mathlib.Numerals.{add-one}
 use native.Mathlib.Omega.{arith}
 use mathlib.Core.Path.{_≡_, refl, sym, ap, _∙_}
 use mathlib.Core.Bool.{Bool, true, false, not}
+use mathlib.Core.Logic.{_≢_}
 use mathlib.Core.List.{List, [], _++_}
-use lib.ListN.{length, getD, set, take}
+use lib.ListN.{length, set, take}
 use lib.Seq.{sets, take-at}
 use lib.Dec.{ltb, eqb}
-use borrow.Author.Tests.{ltb-true, ltb-false, eq-eqb, ne-eqb}
+use borrow.Author.Tests.{ltb-true, ltb-false, lt-ltb, le-ltb, eqb-true, eqb-false}
 use Rattle.laws.specs.Lists.{span, concat}
 use Rattle.laws.specs.Flat.{concat-append, span-append}
 use Rattle.geometry.specs.declared.Geometry.{Geometry}
 use Rattle.geometry.specs.declared.Plan.{Plan}
+use Rattle.geometry.specs.declared.LevelPlace.{LevelPlace}
 use Rattle.geometry.specs.Geometry.{InRange, bottom, room}
-use Rattle.geometry.specs.Places.{levelStart, storeWords, workWords}
+use Rattle.geometry.specs.Places.{levelStart, storeWords, workWords, pagesWord, wordsInPage, slotsInPage}
 use Rattle.geometry.specs.Bounds.{room-small, room-least}
 use Rattle.geometry.specs.Apart.{level-after, level-inside}
-use Rattle.geometry.specs.Lent.{Lent, rooms-at, starts-at, room-at, plan-words}
+use Rattle.geometry.specs.Lent.{Lent, room-inside}
 use Rattle.slot.specs.declared.Slot.{Slot}
 use Rattle.rules.specs.Tree.{Level}
 use Rattle.rules.specs.Level.{pagesFor, pageOf}
 use Rattle.rules.specs.Merging.{join}
 use Rattle.rules.specs.Store.{levelWords}
-use Rattle.rules.specs.Sound.{pagesOf, levelLaid, ascending}
+use Rattle.rules.specs.Sound.{levelLaid, ascending}
+use Rattle.geometry.specs.Directory.{pagesOf, levelPlace, pages-none}
 use Rattle.entries.specs.declared.Run.{Run}
 use Rattle.entries.specs.Run.{Inside, entriesIn}
-use Rattle.entries.specs.Levels.{PagesWithin, pages-none}
-use Rattle.written.specs.Pages.{levelPage, level-pages}
+use Rattle.entries.specs.Levels.{PagesWithin}
+use Rattle.layout.specs.Pages.{levelPage, level-pages}
 use Rattle.written.specs.Parts.{level-laid}
-use Rattle.stored.specs.Parts.{level-words, store-end}
+use Rattle.stored.specs.Parts.{level-words}
 use Rattle.writer.specs.declared.Source.{Source}
 use Rattle.writer.specs.Source.{SourceInside, SourceAscends, levelFrom}
 use Rattle.writer.specs.Writing.{roomIn, WholePages}
@@ -113,31 +116,21 @@ module _ (g : Geometry) (fit : InRange g) (work : List ℕ) (exact : length work
   room-in-work (suc (suc (suc zero))) l h = omega (arith, work-room)
   room-in-work (suc (suc (suc (suc i)))) l h = absurd (omega arith)
 
-  pub slots-in-work : (i n : ℕ) → 1 ≤ i → i ≤ 3 → pagesFor n ≤ room g i → n ≤ 21 * roomIn work
+  pub slots-in-work : (i n : ℕ) → 1 ≤ i → i ≤ 3 → pagesFor n ≤ room g i → n ≤ slotsInPage * roomIn work
   unfolding pagesFor
   slots-in-work i n l h few = omega (arith, few, room-in-work i l h)
 
--- A level's room in the store, and as much of the work area.
-pub record PutInside (plan : Plan) (i : ℕ) (w work : List ℕ) : Type 0 where
-  pub exists : i ≤ 3
-  pub inside : getD (plan .starts) i 0 + 64 * getD (plan .rooms) i 0 ≤ length w
-  pub enough : 64 * getD (plan .rooms) i 0 ≤ length work
-  pub nine : 9 ≤ length w
-  pub few : length w ≤ 600000
-
-pub put-inside : (g : Geometry) (plan : Plan) (w work : List ℕ) (i : ℕ) → Lent g plan w → 1 ≤ i → i < g .levels → 64 * room g i ≤ length work → PutInside plan i w work
-put-inside g plan w work i l h u b =
-    let few : i ≤ 3 = omega (arith, u, l .in-range .levels-most) in
-    record {
-      exists = few;
-      inside = room-at g plan w l i h u .1;
-      enough = omega (arith, b, rooms-at g plan w l i few);
-      nine = l .nine;
-      few = omega (arith, l .exact, plan-words plan g (l .planned), l .small .store-below);
-    }
+-- A level's room lies in the store, and the work area has as much.
+pub put-inside : (g : Geometry) (plan : Plan) (w work : List ℕ) (i : ℕ) → Lent g plan w → length work ≡ workWords g → 1 ≤ i → i < g .levels → {place : LevelPlace} →
+    place ≡ levelPlace g w i → (place .start + wordsInPage * place .room ≤ length w) × (wordsInPage * place .room ≤ length work)
+unfolding levelPlace
+put-inside g plan w work i l exact h u e =
+    let three : i ≤ 3 = omega (arith, u, l .in-range .levels-most) in
+    let enough = room-in-work g (l .in-range) work exact i h three in
+    (room-inside g plan w l i u e, rw e (omega (arith, enough)))
 
 -- The first pages of a written level are the level in less room.
-pub level-front : (slots : List Slot) (m n : ℕ) → m ≤ n → take (64 * m) (levelWords slots n) ≡ levelWords slots m
+pub level-front : (slots : List Slot) (m n : ℕ) → m ≤ n → take (wordsInPage * m) (levelWords slots n) ≡ levelWords slots m
 level-front slots m n h =
     let e : n ≡ m + (n - m) = omega arith in
     let split : levelWords slots n ≡ levelWords slots m ++ concat (span (levelPage slots) (0 + m) (n - m)) =
@@ -148,40 +141,38 @@ level-front slots m n h =
 
 -- Copied from there with its page count, the level is filled.
 pub slots-small : (g : Geometry) (w work : List ℕ) (i n : ℕ) (upper lower : Run) (fit : InRange g) → length work ≡ workWords g → 1 ≤ i → i ≤ 3 →
-    Fillable g i (join (entriesIn w upper) (entriesIn w lower)) w → n ≡ length (levelFrom w (sourceAt g w i upper lower)) → n ≤ 21 * roomIn work
+    Fillable g i (join (entriesIn w upper) (entriesIn w lower)) w → n ≡ length (levelFrom w (sourceAt g w i upper lower)) → n ≤ slotsInPage * roomIn work
 unfolding filledPages
 slots-small g w work i n upper lower fit exact l h fits e =
     slots-in-work g fit work exact i n l h (rw (e, source-laid g w i upper lower) (fits .enough))
 
 pub level-filled : (g : Geometry) (w work : List ℕ) (i n : ℕ) (upper lower : Run) → room g i ≤ n →
     work ≡ levelWords (levelFrom w (sourceAt g w i upper lower)) n →
-    set (sets w (levelStart g i) (take (64 * room g i) work)) (3 + i) (pagesFor (length (levelFrom w (sourceAt g w i upper lower)))) ≡
+    set (sets w (levelStart g i) (take (wordsInPage * room g i) work)) (pagesWord i) (pagesFor (length (levelFrom w (sourceAt g w i upper lower)))) ≡
     filled g i (join (entriesIn w upper) (entriesIn w lower)) w
 unfolding filled levelPut
 level-filled g w work i n upper lower h e =
     rw (e, level-front (levelFrom w (sourceAt g w i upper lower)) (room g i) n h, source-laid g w i upper lower) refl
 
--- The source in the bottom, which has no pages below, and above it.
-module _ (g : Geometry) (w : List ℕ) (i start below : ℕ) (upper lower : Run) where
-  pub source-bottom : InRange g → suc i ≡ g .levels → start ≡ storeWords g →
-      record { upper = upper; lower = lower; «below_start» = start; below = 0; fenced = false } ≡ sourceAt g w i upper lower
-  unfolding sourceAt
-  source-bottom fit e s = rw (eq-eqb i (bottom g) (omega (arith, e)), pages-none g w (suc i) (omega (arith, e)), e, store-end g fit, s) refl
-
-  pub source-above : suc i < g .levels → start ≡ levelStart g (i + 1) → below ≡ pagesOf g w (i + 1) →
-      record { upper = upper; lower = lower; «below_start» = start; below = below; fenced = true } ≡ sourceAt g w i upper lower
-  unfolding sourceAt
-  source-above h s b = rw (ne-eqb i (bottom g) (λ e. omega (arith, e, h)), s, b, add-one i) refl
+-- The source as the code makes it, from the place of the level below. Above the bottom there is one.
+pub source-told : (g : Geometry) (w : List ℕ) (i : ℕ) (upper lower : Run) → i < g .levels → {place : LevelPlace} → place ≡ levelPlace g w (i + 1) →
+    record { upper = upper; lower = lower; «below_start» = place .start; below = place .pages; fenced = ltb (i + 1) (g .levels) } ≡ sourceAt g w i upper lower
+unfolding sourceAt levelPlace
+source-told g w i upper lower u e = rw (e, add-one i, above (eqb i (bottom g)) refl) refl
+  where
+    above : (b : Bool) → eqb i (bottom g) ≡ b → ltb (suc i) (g .levels) ≡ not b
+    above true q = le-ltb (suc i) (g .levels) (omega (arith, eqb-true i (bottom g) q))
+    above false q = let d : i ≢ bottom g = eqb-false i (bottom g) q in lt-ltb (suc i) (g .levels) (omega (arith, u))
 
 -- So what each step of filling a level told makes up the whole.
-pub fill-told : (g : Geometry) (plan : Plan) (w : List ℕ) (i n : ℕ) (upper lower : Run) → Lent g plan w → 1 ≤ i → i ≤ 3 → room g i ≤ n → {source : Source} →
+pub fill-told : (g : Geometry) (w : List ℕ) (i n : ℕ) (upper lower : Run) → room g i ≤ n → {source : Source} →
     source ≡ sourceAt g w i upper lower → {work v : List ℕ} {slots pages r : ℕ} → work ≡ levelWords (levelFrom w source) n → slots ≡ length (levelFrom w source) →
-    pages ≡ pagesFor slots → v ≡ set (sets w (getD (plan .starts) i 0) (take (64 * getD (plan .rooms) i 0) work)) (3 + i) pages → r ≡ pages →
+    pages ≡ pagesFor slots → v ≡ set (sets w (levelStart g i) (take (wordsInPage * room g i) work)) (pagesWord i) pages → r ≡ pages →
     (v ≡ filled g i (join (entriesIn w upper) (entriesIn w lower)) w) × (r ≡ filledPages g i (join (entriesIn w upper) (entriesIn w lower)) w)
 unfolding filledPages
-fill-told g plan w i n upper lower l h u b {source} s {work} {v} {slots} {pages} {r} a k p q e =
+fill-told g w i n upper lower b {source} s {work} {v} {slots} {pages} {r} a k p q e =
     let area : work ≡ levelWords (levelFrom w (sourceAt g w i upper lower)) n = rw (← s) a in
     let count : pages ≡ pagesFor (length (levelFrom w (sourceAt g w i upper lower))) = p ∙ rw (← s, ← k) refl in (
-      q ∙ rw (starts-at g plan w l i h u, rooms-at g plan w l i u, count) (level-filled g w work i n upper lower b area),
+      q ∙ rw count (level-filled g w work i n upper lower b area),
       e ∙ count ∙ rw (source-laid g w i upper lower) refl,
     )

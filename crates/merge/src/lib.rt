@@ -7,24 +7,32 @@ ghost use mathlib.Core.List.{[]};
 ghost use lib.ListN.{length, getD, set, take};
 ghost use lib.Seq.{sets};
 ghost use lib.Dec.{ltb};
-ghost use Rattle.geometry.specs.Geometry.{bottom};
-ghost use Rattle.geometry.specs.Places.{headStart, planOf, workWords};
+ghost use Rattle.geometry.specs.Geometry.{bottom, room};
+ghost use Rattle.geometry.specs.Places.{headStart, planOf, workWords, pagesWord, wordsInSlot, wordsInPage, levelStart};
 ghost use Rattle.rules.specs.Level.{fences};
-ghost use Rattle.written.specs.Run.{wordsOfAll};
-ghost use Rattle.written.specs.Written.{firstPair};
+ghost use Rattle.layout.specs.Run.{wordsOfAll};
+ghost use Rattle.layout.specs.Words.{firstPair};
 ghost use Rattle.geometry.specs.Lent.{Lent};
 ghost use Rattle.entries.specs.Levels.{PagesWithin};
 ghost use Rattle.rules.specs.Merging.{join};
 ghost use Rattle.entries.specs.Run.{entriesIn};
 ghost use Rattle.merge.specs.Filling.{filled, filledPages, Fillable, headRebuilt, rebuilt, rebuiltPages, Rebuildable, runAt, joined, merged, mergedPages, Mergeable, outcome, roomAt, settled, mergedOn, Settleable};
-ghost use Rattle.merge.specs.Source.{Joinable, PutInside, sourceAt};
+ghost use Rattle.merge.specs.Source.{Joinable, sourceAt};
 use edit::count_entries;
 use entries::Run;
+use entries::head_run;
 use entries::level_run;
 use geometry::Geometry;
+use geometry::HEAD_COUNT;
+use geometry::HEAD_START;
+use geometry::PAGE_COUNTS;
+use geometry::PAGE_WORDS;
 use geometry::Plan;
+use geometry::SLOT_WORDS;
 use geometry::at_level;
+use geometry::level_place;
 use geometry::plan_for;
+use slot::Pid;
 use writer::Source;
 
 // What settling came to: the deepest level merged into, and the pages written.
@@ -149,22 +157,32 @@ pub fn fill_level(
     let plan = plan_for(g);
     let source = source_over(store, g, plan, level, upper, lower);
     let slots = writer::write_level(store, work, source);
-    put_level(store, work, plan, level, writer::pages_for(slots))
+    put_level(store, work, g, plan, level, writer::pages_for(slots))
 }
 
 // Copies a level's pages from the work area to its room, with its page count.
-fn put_level(store: &mut [u32], work: &[u32], plan: Plan, level: u32, pages: u32) -> u32
-    requires { ⌜ PutInside plan level (now store) (now work) ⌝ }
-    ensures words { λ _. ⌜ now (store .exit) ≡ set (sets (now (store .entry)) (getD (plan .starts) level 0) (take (64 * getD (plan .rooms) level 0) (now (work .entry)))) (3 + level) pages ⌝ }
+fn put_level(
+    store: &mut [u32],
+    work: &[u32],
+    g: Geometry,
+    plan: Plan,
+    level: u32,
+    pages: u32,
+) -> u32
+    requires { ⌜ Lent g plan (now store) ⌝ }
+    requires { ⌜ length (now work) ≡ workWords g ⌝ }
+    requires { ⌜ (1 ≤ level) × (level < g .levels) ⌝ }
+    ensures words { λ _. ⌜ now (store .exit) ≡ set (sets (now (store .entry)) (levelStart g level) (take (wordsInPage * room g level) (now (work .entry)))) (pagesWord level) pages ⌝ }
     ensures pages { λ r. ⌜ r ≡ pages ⌝ }
 {
-    let i = level as usize;
-    let starts = plan.starts;
-    let rooms = plan.rooms;
-    let start = at_level(starts, level) as usize;
-    let room = at_level(rooms, level) as usize;
-    words::copy_in(store, start, work, geometry::PAGE_WORDS * room);
-    store[geometry::PAGE_COUNTS + i] = pages;
+    let own = level_place(store, g, plan, level);
+    words::copy_in(
+        store,
+        own.start as usize,
+        work,
+        PAGE_WORDS * own.room as usize,
+    );
+    store[PAGE_COUNTS + level as usize] = pages;
     pages
 }
 
@@ -174,24 +192,13 @@ fn source_over(store: &[u32], g: Geometry, plan: Plan, level: u32, upper: Run, l
     requires { ⌜ (1 ≤ level) × (level < g .levels) ⌝ }
     ensures { λ r. ⌜ r ≡ sourceAt g (now (store .entry)) level upper lower ⌝ }
 {
-    if g.levels <= level + 1 {
-        return Source {
-            upper,
-            lower,
-            below_start: plan.store_words,
-            below: 0,
-            fenced: false,
-        };
-    }
-    let starts = plan.starts;
-    let below_start = at_level(starts, level + 1);
-    let i = level as usize + 1;
+    let below = level_place(store, g, plan, level + 1);
     Source {
         upper,
         lower,
-        below_start,
-        below: store[geometry::PAGE_COUNTS + i],
-        fenced: true,
+        below_start: below.start,
+        below: below.pages,
+        fenced: level + 1 < g.levels,
     }
 }
 
@@ -218,14 +225,9 @@ fn run_at(store: &[u32], g: Geometry, plan: Plan, level: u32) -> Run
     ensures { λ r. ⌜ r ≡ runAt g (now (store .entry)) level ⌝ }
 {
     if level == 0 {
-        return Run {
-            start: geometry::HEAD_COUNT as u32,
-            pages: 1,
-            most: plan.head_room,
-        };
+        return head_run(g, plan);
     }
-    let starts = plan.starts;
-    level_run(store, g, level, at_level(starts, level))
+    level_run(store, g, plan, level)
 }
 
 // Rebuilds the head: a fence for each page of level 1, and unused slots behind them.
@@ -234,25 +236,25 @@ pub fn rebuild_head(store: &mut [u32], g: Geometry, plan: Plan)
     requires { ⌜ PagesWithin g (now store) ⌝ }
     ensures { λ _. ⌜ now (store .exit) ≡ headRebuilt g (now (store .entry)) ⌝ }
 {
-    let pages = store[geometry::PAGE_COUNTS + 1];
-    let below = plan.starts[1] as usize;
-    put_fences(store, below, pages);
-    let used = geometry::HEAD_START + geometry::SLOT_WORDS * pages as usize;
-    words::erase(store, used, below);
-    store[geometry::HEAD_COUNT] = pages;
+    let below = level_place(store, g, plan, 1);
+    put_fences(store, below.start as usize, below.pages);
+    let used = HEAD_START + SLOT_WORDS * below.pages as usize;
+    let end = HEAD_START + SLOT_WORDS * plan.head_room as usize;
+    words::erase(store, used, end);
+    store[HEAD_COUNT] = below.pages;
 }
 
 // Puts a fence for each page of the level that starts at a place into the head's first slots.
 fn put_fences(store: &mut [u32], below: usize, pages: u32)
-    requires { ⌜ headStart + 3 * pages ≤ below ⌝ }
-    requires { ⌜ below + 64 * pages ≤ length (now store) ⌝ }
+    requires { ⌜ headStart + wordsInSlot * pages ≤ below ⌝ }
+    requires { ⌜ below + wordsInPage * pages ≤ length (now store) ⌝ }
     requires { ⌜ pages ≤ 2000 ⌝ }
     ensures { λ _. ⌜ now (store .exit) ≡ sets (now (store .entry)) headStart (wordsOfAll (fences (firstPair (now (store .entry)) below) pages)) ⌝ }
 {
     let mut p = 0;
     while p < pages {
-        let fence = written::fence_of(store, below, p);
-        let place = geometry::HEAD_START + geometry::SLOT_WORDS * p as usize;
+        let fence = layout::fence_of(store, below, Pid(p));
+        let place = HEAD_START + SLOT_WORDS * p as usize;
         slot::write_slot(store, place, fence);
         p += 1;
     }

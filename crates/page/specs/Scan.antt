@@ -15,6 +15,7 @@ use Rattle.slot.specs.Slot.{slotAt}
 use Rattle.rules.specs.Level.{fenceKind}
 use Rattle.rules.specs.Sound.{slotsFrom}
 use Rattle.page.specs.declared.Scan.{Scan}
+use Rattle.geometry.specs.Places.{wordsInSlot}
 
 -- Pairs never fall, and only a fence is followed by its own pair.
 unfoldable pub mayFollow : ℕ → Bool → ℕ → Bool
@@ -61,7 +62,7 @@ started-within = record { fences-within = omega arith; reach-within = omega arit
 
 -- A pass over the slots from slot j on, of the n slots from a place on: where it begins, its next slot, its end.
 unfoldable pub scannedFrom : Pair → (ℕ → Slot → Bool) → List ℕ → ℕ → ℕ → ℕ → Scan → Scan
-scannedFrom asked right w place n j c = scanned asked right c (span (λ i. slotAt w (place + 3 * i)) j (n - j))
+scannedFrom asked right w place n j c = scanned asked right c (span (λ i. slotAt w (place + wordsInSlot * i)) j (n - j))
 
 module _ (asked : Pair) (right : ℕ → Slot → Bool) (w : List ℕ) (place n : ℕ) where
   pub scan-begins : scannedFrom asked right w place n 0 started ≡ scanned asked right started (slotsFrom w place n)

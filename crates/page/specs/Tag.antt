@@ -30,7 +30,7 @@ internalKind Filter = false
 internalKind External = false
 internalKind Internal = true
 
--- What is tested of a slot behind so many fences: in a page, that its tag is legal; in the head, that the fences name pages 0, 1, … in turn.
+-- What is tested of a slot that has `fences` fences before it: in a page, that its tag is legal; in the head, that the fences name pages 0, 1, … in turn.
 unfoldable pub legalBelow : ℕ → ℕ → Slot → Bool
 legalBelow below fences s = legal true below s
 

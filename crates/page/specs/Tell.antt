@@ -14,12 +14,13 @@ use Rattle.rules.specs.Level.{fenceKind}
 use Rattle.rules.specs.Finding.{normalKind}
 use Rattle.page.specs.declared.Met.{Met}
 use Rattle.page.specs.declared.Met.the-variants.{Absent, Entry}
+use Rattle.geometry.specs.Places.{wordsInSlot}
 
 -- Stepping back from slot j of the run at a place, the page of the first fence met; the first slot's where there is none.
 unfoldable pub fenceBack : List ℕ → ℕ → ℕ → Pid
-fenceBack w place zero = (slotAt w (place + 3 * 0)) .page
+fenceBack w place zero = (slotAt w (place + wordsInSlot * 0)) .page
 fenceBack w place (suc j) =
-    elim (fenceKind ((slotAt w (place + 3 * suc j)) .kind)) [ true ↦ (slotAt w (place + 3 * suc j)) .page | false ↦ fenceBack w place j ]
+    elim (fenceKind ((slotAt w (place + wordsInSlot * suc j)) .kind)) [ true ↦ (slotAt w (place + wordsInSlot * suc j)) .page | false ↦ fenceBack w place j ]
 
 -- An index entry of just that pair in a slot.
 unfoldable pub metIn : Slot → Pair → Met

@@ -10,6 +10,8 @@ ghost use Rattle.rules.specs.Sound.{legal, slotsFrom};
 ghost use Rattle.page.specs.Scan.{started, stepped, scanned, mayFollow};
 ghost use Rattle.page.specs.Tag.{legalBelow, inTurn, pagesNamed, pageDue, internalKind};
 ghost use Rattle.page.specs.Tell.{fenceBack, metIn};
+ghost use Rattle.geometry.specs.Places.{wordsInSlot};
+use geometry::SLOT_WORDS;
 use laws::both;
 use laws::either;
 use laws::one_if;
@@ -17,6 +19,7 @@ use slot::Kind;
 use slot::Pair;
 use slot::Pid;
 use slot::Slot;
+use slot::SlotNo;
 use slot::comes_before;
 use slot::rank_of;
 use slot::read_slot;
@@ -40,31 +43,31 @@ pub enum Met {
     Entry(bool),
 }
 
-// A pass over a page's slots, count of them from a place on, whose fences may name the pages below that number.
+// A pass over a page: its `count` slots stand from a place on, and its fences may name the first `below` pages of the level below.
 pub fn scan_page(words: &[u32], place: usize, count: usize, asked: Pair, below: u32) -> Scan
-    requires { ⌜ (place + 3 * count ≤ length (now words)) × (count ≤ 4096) ⌝ }
+    requires { ⌜ (place + wordsInSlot * count ≤ length (now words)) × (count ≤ 4096) ⌝ }
     ensures { λ r. ⌜ r ≡ scanned asked (legalBelow below) started (slotsFrom (now (words .entry)) place count) ⌝ }
 {
     let mut scan = scan_start();
     let mut j = 0;
     while j < count {
-        let slot = read_slot(words, place + 3 * j);
+        let slot = read_slot(words, place + SLOT_WORDS * j);
         scan = scan_step(scan, slot, asked, is_legal(slot, below));
         j += 1;
     }
     scan
 }
 
-// A pass over the head's slots, count of them from a place on, whose fences name pages 0, 1, … in turn.
+// A pass over the head: its `count` slots stand from a place on, and its fences name pages 0, 1, … in turn.
 pub fn scan_head(words: &[u32], place: usize, count: usize, asked: Pair) -> Scan
-    requires { ⌜ (place + 3 * count ≤ length (now words)) × (count ≤ 4096) ⌝ }
+    requires { ⌜ (place + wordsInSlot * count ≤ length (now words)) × (count ≤ 4096) ⌝ }
     ensures exact { λ r. ⌜ r ≡ scanned asked inTurn started (slotsFrom (now (words .entry)) place count) ⌝ }
     ensures few { λ r. ⌜ r .fences ≤ count ⌝ }
 {
     let mut scan = scan_start();
     let mut j = 0;
     while j < count {
-        let slot = read_slot(words, place + 3 * j);
+        let slot = read_slot(words, place + SLOT_WORDS * j);
         scan = scan_step(scan, slot, asked, is_in_turn(slot, scan.fences));
         j += 1;
     }
@@ -84,7 +87,7 @@ fn scan_start() -> Scan
     }
 }
 
-// One slot more, whose tag is right or not.
+// The pass with one slot more. The caller has tested the slot's tag.
 fn scan_step(scan: Scan, slot: Slot, asked: Pair, right: bool) -> Scan
     requires { ⌜ (scan .fences ≤ 4096) × (scan .reach ≤ 4096) ⌝ }
     ensures { λ r. ⌜ r ≡ stepped asked scan slot right ⌝ }
@@ -140,7 +143,7 @@ fn is_in_turn(slot: Slot, fences: u32) -> bool
     both(page.0 == page_due(kind, fences), !is_internal(kind))
 }
 
-// The page that a slot of this kind names in the head, behind so many fences.
+// The page that a slot of this kind names in the head, after `fences` fences.
 fn page_due(kind: Kind, fences: u32) -> u32
     ensures { λ r. ⌜ r ≡ pageDue fences kind ⌝ }
 {
@@ -185,15 +188,15 @@ pub fn is_normal(kind: Kind) -> bool
     }
 }
 
-// Stepping back from slot j, the page of the first fence met. The first slot of the run is a fence.
-pub fn fence_back(words: &[u32], place: usize, from: usize) -> Pid
-    requires { ⌜ (place + 3 * from + 3 ≤ length (now words)) ⌝ }
+// Steps back from a slot of the run at a place, and gives the page of the first fence that it meets. The first slot of the run is a fence.
+pub fn fence_back(words: &[u32], place: usize, from: SlotNo) -> Pid
+    requires { ⌜ (place + wordsInSlot * from .0 + wordsInSlot ≤ length (now words)) ⌝ }
     requires { ⌜ fenceKind ((slotAt (now words) place) .kind) ≡ true ⌝ }
-    ensures { λ r. ⌜ r ≡ fenceBack (now (words .entry)) place from ⌝ }
+    ensures { λ r. ⌜ r ≡ fenceBack (now (words .entry)) place (from .0) ⌝ }
 {
-    let mut j = from;
+    let mut j = from.0 as usize;
     let page = loop {
-        let slot = read_slot(words, place + 3 * j);
+        let slot = read_slot(words, place + SLOT_WORDS * j);
         let kind = slot.kind;
         if is_fence(kind) {
             break slot.page;
@@ -205,7 +208,7 @@ pub fn fence_back(words: &[u32], place: usize, from: usize) -> Pid
 
 // What the slot at a place says of a pair.
 pub fn met_at(words: &[u32], place: usize, asked: Pair) -> Met
-    requires { ⌜ place + 3 ≤ length (now words) ⌝ }
+    requires { ⌜ place + wordsInSlot ≤ length (now words) ⌝ }
     ensures { λ r. ⌜ r ≡ metIn (slotAt (now (words .entry)) place) asked ⌝ }
 {
     let slot = read_slot(words, place);

@@ -1,6 +1,6 @@
 -- A number in decimal: the ASCII codes of its digits, the most significant first, without leading zeros. Assumes nothing.
 use Prim.Native.Nat.{ℕ, zero, suc, _+_, _*_, _/_, _%_, _^_, _≤_, _<_}
-use native.Mathlib.Nat.{pow-suc, pow-zero}
+use native.Mathlib.Nat.{pow-suc}
 use native.Mathlib.Omega.{arith}
 use mathlib.Core.Path.{_≡_, refl, sym, ap, _∙_}
 use mathlib.Core.Bool.{Bool, true, false}
@@ -62,15 +62,8 @@ length-digit n h = ap length (decimal-digit n h)
 pub length-more : (n : ℕ) → 10 ≤ n → length (decimal n) ≡ length (decimal (n / 10)) + 1
 length-more n h = ap length (decimal-more n h) ∙ length-append (decimal (n / 10)) (digitCode (n % 10) ∷ [])
 
--- There is a digit at least, and below a power of ten no more than its exponent; so a word has ten at most, and 64 bits twenty.
-pub digits-some : (n : ℕ) → 1 ≤ length (decimal n)
-digits-some n = picked (ltb n 10) refl
-  where
-    picked : (t : Bool) → ltb n 10 ≡ t → 1 ≤ length (decimal n)
-    picked true e = omega (arith, length-digit n (ltb-true n 10 e))
-    picked false e = omega (arith, length-more n (ltb-false n 10 e))
-
-pub digits-below : (k n : ℕ) → n < 10 ^ suc k → length (decimal n) ≤ suc k
+-- Below a power of ten there are no more digits than its exponent; so a number of 64 bits has twenty at most.
+digits-below : (k n : ℕ) → n < 10 ^ suc k → length (decimal n) ≤ suc k
 digits-below zero n h = omega (arith, length-digit n h)
 digits-below (suc k) n h = picked (ltb n 10) refl (digits-below k (n / 10))
   where
@@ -80,9 +73,6 @@ digits-below (suc k) n h = picked (ltb n 10) refl (digits-below k (n / 10))
         let power : 10 ^ suc (suc k) ≡ 10 ^ suc k * 10 = pow-suc 10 (suc k) in
         let fewer : length (decimal (n / 10)) ≤ suc k = ih (omega arith) in
         omega (arith, length-more n (ltb-false n 10 e))
-
-pub word-digits : (n : ℕ) → n < 4294967296 → length (decimal n) ≤ 10
-word-digits n h = digits-below 9 n (omega arith)
 
 pub long-digits : (n : ℕ) → n < 18446744073709551616 → length (decimal n) ≤ 20
 long-digits n h = digits-below 19 n (omega arith)

@@ -1,14 +1,26 @@
-// Text put into a lent buffer: bytes as they are, and numbers in decimal.
+// Text put into a lent buffer: a line is a name, a number in decimal without leading zeros, and byte 10.
 ghost use Prim.Native.Nat.{_+_, _<_, _≤_};
 ghost use mathlib.Core.Path.{_≡_};
 ghost use lib.ListN.{length};
-ghost use lib.Seq.{sets};
 ghost use Rattle.printing.specs.Decimal.{decimal};
+ghost use Rattle.printing.specs.Printed.{Printed};
+ghost use Rattle.printing.specs.Line.{line, numberRoom};
+
+// Puts a line into the buffer from a place on, and gives the place after it. There must be room for a number of 20 digits.
+pub fn print_line(out: &mut [u8], at: usize, name: &[u8], n: u64) -> usize
+    requires { ⌜ at + (length (now name) + numberRoom) ≤ length (now out) ⌝ }
+    ensures { λ r. ⌜ Printed (now (out .entry)) at (line (now (name .entry)) n) (now (out .exit)) r ⌝ }
+    ensures { λ r. ⌜ r ≤ at + (length (now (name .entry)) + numberRoom) ⌝ }
+{
+    let named = print_bytes(out, at, name);
+    let end = print_number(out, named, n);
+    print_bytes(out, end, b"\n")
+}
 
 // Puts bytes into the buffer from a place on, and gives the place after them.
-pub fn print_bytes(out: &mut [u8], at: usize, text: &[u8]) -> usize
+fn print_bytes(out: &mut [u8], at: usize, text: &[u8]) -> usize
     requires { ⌜ at + length (now text) ≤ length (now out) ⌝ }
-    ensures { λ r. ⌜ (r ≡ at + length (now (text .entry))) × (now (out .exit) ≡ sets (now (out .entry)) at (now (text .entry))) ⌝ }
+    ensures { λ r. ⌜ Printed (now (out .entry)) at (now (text .entry)) (now (out .exit)) r ⌝ }
 {
     let n = text.len();
     let mut j = 0;
@@ -19,10 +31,10 @@ pub fn print_bytes(out: &mut [u8], at: usize, text: &[u8]) -> usize
     at + n
 }
 
-// Puts a number into the buffer from a place on, in decimal without leading zeros, and gives the place after it.
-pub fn print_number(out: &mut [u8], at: usize, n: u64) -> usize
+// Puts a number into the buffer from a place on, and gives the place after it.
+fn print_number(out: &mut [u8], at: usize, n: u64) -> usize
     requires { ⌜ at + length (decimal n) ≤ length (now out) ⌝ }
-    ensures { λ r. ⌜ (r ≡ at + length (decimal n)) × (now (out .exit) ≡ sets (now (out .entry)) at (decimal n)) ⌝ }
+    ensures { λ r. ⌜ Printed (now (out .entry)) at (decimal n) (now (out .exit)) r ⌝ }
 {
     if n < 10 {
         out[at] = digit(n);

@@ -12,7 +12,8 @@ use Rattle.rules.specs.Level.{slotsOf}
 use Rattle.rules.specs.Finding.{held}
 use Rattle.rules.specs.Merging.{State}
 use Rattle.rules.specs.Store.{writing}
-use Rattle.rules.specs.Sound.{geometryOf, treeOf, sound, fault}
+use Rattle.rules.specs.Sound.{treeOf, sound, fault}
+use Rattle.geometry.specs.Directory.{geometryOf}
 use Rattle.rules.specs.Good.{Good, Fits}
 use Rattle.rules.specs.Reading.{Reads}
 use Rattle.walk.specs.declared.Walked.the-variants.{Found}

@@ -12,14 +12,17 @@ use Rattle.laws.specs.Tests.{and-left, and-right}
 use Rattle.geometry.specs.declared.Geometry.{Geometry}
 use Rattle.geometry.specs.Geometry.{between, InRange}
 use Rattle.geometry.specs.Places.{storeWords}
+use Rattle.lines.specs.declared.Value.the-variants.{Number, Faulty}
+use Rattle.lines.specs.Lines.{linesOf, firstOf, restOf}
+use Rattle.lines.specs.Number.{value}
+use Rattle.lines.specs.Judged.{Judged, faulty}
+use Rattle.lines.specs.Told.{ahead, ReadAs}
 use Rattle.reading.specs.declared.Request.{Request}
-use Rattle.reading.specs.declared.Value.the-variants.{Number, Faulty}
 use Rattle.reading.specs.declared.Group.the-variants.{Faulty as FaultyGroup}
 use Rattle.reading.specs.declared.Requests.the-variants.{Faulty as FaultyRequests, Good as GoodRequests}
 use Rattle.reading.specs.declared.Judgement.the-variants.{Faulty as FaultySheet}
-use Rattle.reading.specs.Lines.{linesOf, firstOf, restOf}
-use Rattle.reading.specs.Sheet.{headName, ratioName, levelsName, value, inside, ranged, Judged, faulty, sheetFor, joined, heading, requestsFrom, judgedLines, judged, mostBytes, mostWords}
-use Rattle.reading.specs.Told.{ahead, ReadAs, Requested, GroupAs, Faultless, RequestsAs, Headed, GeometryAs, Ready, Judges}
+use Rattle.reading.specs.Sheet.{headName, ratioName, levelsName, inside, ranged, sheetFor, joined, heading, requestsFrom, judgedLines, judged, mostBytes, mostWords}
+use Rattle.reading.specs.Told.{Requested, GroupAs, Faultless, RequestsAs, Headed, GeometryAs, Ready, Judges}
 
 -- What a number inside a range tells.
 module _ (least most : ℕ) where

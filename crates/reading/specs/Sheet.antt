@@ -10,11 +10,12 @@ use lib.Dec.{leb, eqb}
 use Rattle.geometry.specs.declared.Geometry.{Geometry}
 use Rattle.geometry.specs.Geometry.{between}
 use Rattle.geometry.specs.Places.{storeWords}
+use Rattle.lines.specs.Lines.{Line, linesOf, firstOf, restOf, isLine, behind, begun}
+use Rattle.lines.specs.Number.{value}
+use Rattle.lines.specs.Judged.{Judged, faulty, good}
 use Rattle.reading.specs.declared.Operation.{Operation}
 use Rattle.reading.specs.declared.Operation.the-variants.{Put, Drop, Ask}
 use Rattle.reading.specs.declared.Request.{Request}
-use Rattle.reading.specs.Lines.{Line, linesOf, firstOf, restOf, isLine, behind, begun}
-use Rattle.reading.specs.Number.{numberIn}
 
 -- At most 16,384 bytes, and a store of at most 4,096 words.
 abbrev pub mostBytes : ℕ
@@ -49,10 +50,7 @@ dropText = 111 ∷ 112 ∷ 61 ∷ 100 ∷ 114 ∷ 111 ∷ 112 ∷ []
 abbrev pub askText : List ℕ
 askText = 111 ∷ 112 ∷ 61 ∷ 97 ∷ 115 ∷ 107 ∷ []
 
--- The number behind a line's name, as it is and where it is in a range.
-abbrev pub value : List ℕ → Line → Option ℕ
-value name l = numberIn (behind name l)
-
+-- The number behind a line's name, if it is in a range.
 abbrev pub inside : ℕ → ℕ → Option ℕ → Option ℕ
 inside least most none = none
 inside least most (some n) = cond (between least most n) (some n) none
@@ -67,11 +65,6 @@ operation l =
       | true ↦ some Put
       | false ↦ elim (isLine dropText l) [ true ↦ some Drop | false ↦ elim (isLine askText l) [ true ↦ some Ask | false ↦ none ] ]
     ]
-
--- What is without a fault, or the number of the first faulty line.
-pub data Judged (A : Type 0) : Type 0 where
-  faulty : ℕ → Judged A
-  good : A → Judged A
 
 -- A group whose first line has the number n, before the requests that follow it.
 abbrev pub joined : Request → Judged (List Request) → Judged (List Request)

@@ -2,14 +2,15 @@
 use Prim.Native.Nat.{ℕ, _+_, _≤_, _<_}
 use mathlib.Core.Path.{_≡_}
 use mathlib.Core.List.{List}
-use mathlib.Core.Option.{Option, some, none}
-use lib.ListN.{length, drop}
+use mathlib.Core.Option.{some, none}
+use lib.ListN.{length}
 use Rattle.geometry.specs.declared.Geometry.{Geometry}
 use Rattle.geometry.specs.Geometry.{InRange}
 use Rattle.geometry.specs.Places.{storeWords}
+use Rattle.lines.specs.Lines.{linesOf, firstOf}
+use Rattle.lines.specs.Judged.{Judged, faulty, good}
+use Rattle.lines.specs.Told.{ahead, Onward}
 use Rattle.reading.specs.declared.Request.{Request}
-use Rattle.reading.specs.declared.Value.{Value}
-use Rattle.reading.specs.declared.Value.the-variants.{Number, Faulty as FaultyValue}
 use Rattle.reading.specs.declared.Named.{Named}
 use Rattle.reading.specs.declared.Named.the-variants.{Known, Unknown}
 use Rattle.reading.specs.declared.Group.{Group}
@@ -18,30 +19,14 @@ use Rattle.reading.specs.declared.Requests.{Requests}
 use Rattle.reading.specs.declared.Requests.the-variants.{Faulty as FaultyRequests, Good as GoodRequests}
 use Rattle.reading.specs.declared.Judgement.{Judgement}
 use Rattle.reading.specs.declared.Judgement.the-variants.{Faulty as FaultySheet, Good as GoodSheet}
-use Rattle.reading.specs.Lines.{Line, linesOf, firstOf, restOf}
-use Rattle.reading.specs.Sheet.{Judged, faulty, good, sheetFor, joined, operation, requestsFrom, judgedLines, judged, mostBytes, mostWords}
-
--- The lines from a place on.
-abbrev pub ahead : List ℕ → ℕ → List Line
-ahead w at = linesOf (drop at w)
-
--- A line that was read: the next one begins at a place past so many bytes, and inside the input.
-pub record Onward (w : List ℕ) (at past next : ℕ) : Type 0 where
-  pub follows : restOf (ahead w at) ≡ ahead w next
-  pub passes : at + past < next
-  pub within : next ≤ length w
-
--- A number that a line was read as, or that it is faulty.
-abbrev pub ReadAs : List ℕ → ℕ → ℕ → (Line → Option ℕ) → Value → Type 0
-ReadAs w at past number (Number n next) = (number (firstOf (ahead w at)) ≡ some n) × Onward w at past next
-ReadAs w at past number FaultyValue = number (firstOf (ahead w at)) ≡ none
+use Rattle.reading.specs.Sheet.{sheetFor, joined, operation, requestsFrom, judgedLines, judged, mostBytes, mostWords}
 
 -- An operation that a line names, or that it names none.
 abbrev pub NamedAs : List ℕ → ℕ → Named → Type 0
 NamedAs w at (Known op next) = (operation (firstOf (ahead w at)) ≡ some op) × Onward w at 6 next
 NamedAs w at Unknown = operation (firstOf (ahead w at)) ≡ none
 
--- A group's request, before those that follow it; or its faulty line.
+-- A group was read as a request, which stands before those of the groups behind it; or its first faulty line is told.
 pub record Requested (w : List ℕ) (at : ℕ) (r : Request) (next : ℕ) : Type 0 where
   pub joins : (n : ℕ) → requestsFrom n (ahead w at) ≡ joined r (requestsFrom (n + 3) (ahead w next))
   pub passes : at + 20 < next

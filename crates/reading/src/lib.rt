@@ -1,12 +1,14 @@
 // A sheet read and judged: its geometry, and its requests one after another.
-ghost use Prim.Native.Nat.{_+_, _≤_, _<_};
-ghost use mathlib.Core.Path.{_≡_};
-ghost use lib.ListN.{length, drop};
-ghost use Rattle.reading.specs.Lines.{Endless, begins as Spec·begins};
-ghost use Rattle.reading.specs.Number.{isDigit, numberIn, digitsIn};
-ghost use Rattle.reading.specs.Sheet.{value, ranged};
-ghost use Rattle.reading.specs.Told.{ReadAs, NamedAs, GroupAs, RequestsAs, GeometryAs, Judges};
+ghost use Prim.Native.Nat.{_≤_, _<_};
+ghost use lib.ListN.{length};
+ghost use Rattle.lines.specs.Lines.{Endless};
+ghost use Rattle.lines.specs.Told.{ReadAs};
+ghost use Rattle.reading.specs.Sheet.{ranged};
+ghost use Rattle.reading.specs.Told.{NamedAs, GroupAs, RequestsAs, GeometryAs, Judges};
 use geometry::Geometry;
+use lines::Value;
+use lines::begins;
+use lines::read_value;
 use slot::Pair;
 use slot::Rid;
 
@@ -53,13 +55,26 @@ pub fn judge(input: &[u8]) -> Judgement
 fn read_geometry(input: &[u8]) -> Judgement
     ensures { λ r. ⌜ GeometryAs (now (input .entry)) r ⌝ }
 {
-    let Value::Number(head, ratio_at) = read_ranged(input, 0, b"head=", 1, 64) else {
+    let Value::Number(head, ratio_at) = read_ranged(input, 0, b"head=", 1, geometry::MOST_HEAD)
+    else {
         return Judgement::Faulty(1);
     };
-    let Value::Number(ratio, levels_at) = read_ranged(input, ratio_at, b"ratio=", 2, 8) else {
+    let Value::Number(ratio, levels_at) = read_ranged(
+        input,
+        ratio_at,
+        b"ratio=",
+        2,
+        geometry::MOST_RATIO,
+    ) else {
         return Judgement::Faulty(2);
     };
-    let Value::Number(levels, next) = read_ranged(input, levels_at, b"levels=", 2, 4) else {
+    let Value::Number(levels, next) = read_ranged(
+        input,
+        levels_at,
+        b"levels=",
+        2,
+        geometry::MOST_LEVELS,
+    ) else {
         return Judgement::Faulty(3);
     };
     let geometry = Geometry {
@@ -153,13 +168,7 @@ fn read_operation(input: &[u8], at: usize) -> Named
     Named::Unknown
 }
 
-// The number in a line and the place of the next line, or that the line is faulty.
-pub enum Value {
-    Number(u32, usize),
-    Faulty,
-}
-
-// The number in a line, inside a range.
+// Reads a line like `read_value`; a number outside the range is a fault.
 fn read_ranged(input: &[u8], at: usize, name: &[u8], least: u32, most: u32) -> Value
     requires { ⌜ at ≤ length (now input) ⌝ }
     requires { ⌜ Endless (now name) ⌝ }
@@ -175,86 +184,4 @@ fn read_ranged(input: &[u8], at: usize, name: &[u8], least: u32, most: u32) -> V
         return Value::Faulty;
     }
     Value::Number(n, next)
-}
-
-// The number in a line of this name.
-fn read_value(input: &[u8], at: usize, name: &[u8]) -> Value
-    requires { ⌜ at ≤ length (now input) ⌝ }
-    requires { ⌜ Endless (now name) ⌝ }
-    ensures { λ r. ⌜ ReadAs (now (input .entry)) at (length (now (name .entry))) (value (now (name .entry))) r ⌝ }
-{
-    if !begins(input, at, name) {
-        return Value::Faulty;
-    }
-    read_number(input, at + name.len())
-}
-
-// The number from a place to the line's end: a zero stands alone, and any other number does not begin with one.
-fn read_number(input: &[u8], at: usize) -> Value
-    requires { ⌜ at ≤ length (now input) ⌝ }
-    ensures { λ r. ⌜ ReadAs (now (input .entry)) at 0 numberIn r ⌝ }
-{
-    if begins(input, at, b"0\n") {
-        return Value::Number(0, at + 2);
-    }
-    if begins(input, at, b"0") {
-        return Value::Faulty;
-    }
-    if begins(input, at, b"\n") {
-        return Value::Faulty;
-    }
-    read_digits(input, at)
-}
-
-// The number that digits make, from a place to the line's end.
-fn read_digits(input: &[u8], from: usize) -> Value
-    ensures { λ r. ⌜ ReadAs (now (input .entry)) from 0 (digitsIn 0) r ⌝ }
-{
-    let mut n: u64 = 0;
-    let mut at = from;
-    while at < input.len() {
-        let byte = input[at];
-        if byte == 10 {
-            return Value::Number(n as u32, at + 1);
-        }
-        if !is_digit(byte) {
-            return Value::Faulty;
-        }
-        n = 10 * n + wide(byte - 48);
-        if 4294967295 < n {
-            return Value::Faulty;
-        }
-        at += 1;
-    }
-    Value::Faulty
-}
-
-fn is_digit(byte: u8) -> bool
-    ensures { λ r. ⌜ r ≡ isDigit byte ⌝ }
-{
-    48 <= byte && byte <= 57
-}
-
-fn wide(x: u8) -> u64
-    ensures { λ r. ⌜ r ≡ x ⌝ }
-{
-    x as u64
-}
-
-// Whether the input has these bytes at a place.
-fn begins(input: &[u8], at: usize, bytes: &[u8]) -> bool
-    requires { ⌜ at ≤ length (now input) ⌝ }
-    ensures { λ r. ⌜ r ≡ Spec·begins (now (bytes .entry)) (drop at (now (input .entry))) ⌝ }
-{
-    if input.len() - at < bytes.len() {
-        return false;
-    }
-    let mut j = 0;
-    while j < bytes.len() {
-        if input[at + j] != bytes[j] {
-            return false;
-        }
-        j += 1;
-    }
-    true
 }

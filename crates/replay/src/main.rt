@@ -3,29 +3,47 @@
 //   2 badge floor                  ask
 //   3                              check
 //   4 badge floor badge floor n    list into n words, of which word j is 1000 + j
-// Each call prints a line: the reply's number and its values, and after a list the words of the slice.
+//   5 badge floor n                put, with a work area of n words, of which word j is j
+//   6 badge floor n                drop, likewise
+//   7 H k l                        format
+// Each call prints a line: the reply's number and its values, after a list the words of the slice, and after a put, a drop or a format the
+// words that it changed, those of the store behind `store` and those of the work area behind `work`. There ` 8=2 12=0*3` says that word 8
+// is 2 now, and that words 12 to 14 are 0.
 ghost use Prim.Native.Nat.{_+_, _<_, _≤_};
 ghost use mathlib.Core.Path.{_≡_};
 ghost use lib.ListN.{length};
-use index::Asked;
-use index::Checked;
-use index::Shown;
+
+mod calls;
+mod lines;
+
+use calls::ask_line;
+use calls::check_line;
+use calls::edit_line;
+use calls::format_line;
+use calls::list_line;
+use geometry::Geometry;
 use libc::STDIN_FILENO;
-use libc::STDOUT_FILENO;
+use lines::end_line;
 use script::word_at;
 use slot::Pair;
 use slot::Rid;
 
 fn main() {
-    let mut input = [0u8; 262144];
+    let mut input = room();
     let got = io::read_full(STDIN_FILENO, &mut input);
     let mut store = [0u32; 4096];
-    let mut slice = [0u32; 64];
-    replay(&input[..got], &mut store, &mut slice);
+    replay(&input[..got], &mut store);
+}
+
+// Room for a script. The `ensures` keeps main's proof from looking at a list so long.
+fn room() -> [u8; 1048576]
+    ensures { λ r. ⌜ 1048576 ≡ length r ⌝ }
+{
+    [0; 1048576]
 }
 
 // Goes through a script to its end, or to a number that begins nothing.
-fn replay(script: &[u8], store: &mut [u32], slice: &mut [u32]) {
+fn replay(script: &[u8], store: &mut [u32]) {
     let mut at = 0;
     let mut words = 0;
     while at < script.len() {
@@ -36,26 +54,30 @@ fn replay(script: &[u8], store: &mut [u32], slice: &mut [u32]) {
             words = loaded.words;
         } else {
             let n = least(words, store.len());
-            call(script, at, op, &store[0..n], slice);
+            call(script, at, op, &mut store[0..n]);
             at += length_of(op);
         }
     }
 }
 
 // Makes one call and prints its line.
-fn call(script: &[u8], at: usize, op: u32, store: &[u32], slice: &mut [u32])
+fn call(script: &[u8], at: usize, op: u32, store: &mut [u32])
     requires { ⌜ at < length (now script) ⌝ }
 {
+    let pair = pair_at(script, at + 4);
+    let words = word_at(script, at + 12);
     match op {
-        2 => ask_line(store, pair_at(script, at + 4)),
+        2 => ask_line(store, pair),
         3 => check_line(store),
         4 => list_line(
             store,
-            pair_at(script, at + 4),
+            pair,
             pair_at(script, at + 12),
-            slice,
             word_at(script, at + 20),
         ),
+        5 => edit_line(store, true, pair, words),
+        6 => edit_line(store, false, pair, words),
+        7 => format_line(store, geometry_at(script, at + 4)),
         _ => end_line(),
     }
 }
@@ -67,83 +89,11 @@ fn length_of(op: u32) -> usize
     match op {
         2 => 12,
         4 => 24,
+        5 => 16,
+        6 => 16,
+        7 => 16,
         _ => 4,
     }
-}
-
-fn ask_line(store: &[u32], pair: Pair) {
-    match index::ask(store, pair) {
-        Asked::Answer(held, level) => {
-            if held {
-                reply_line(0, 1, level);
-            } else {
-                reply_line(0, 0, level);
-            }
-        }
-        Asked::Range => reply_line(1, 0, 0),
-        Asked::Length => reply_line(5, 0, 0),
-        Asked::Fault(level) => reply_line(6, level, 0),
-    }
-    end_line();
-}
-
-fn check_line(store: &[u32]) {
-    match index::check(store) {
-        Checked::Done => reply_line(0, 0, 0),
-        Checked::Range => reply_line(1, 0, 0),
-        Checked::Length => reply_line(5, 0, 0),
-        Checked::Fault(level) => reply_line(6, level, 0),
-    }
-    end_line();
-}
-
-fn list_line(store: &[u32], first: Pair, second: Pair, slice: &mut [u32], count: u32) {
-    let n = least(count as usize, slice.len());
-    number_words(slice);
-    match index::list(store, first, second, &mut slice[0..n]) {
-        Shown::Pairs(pairs, mark) => reply_line(0, pairs, mark),
-        Shown::Range => reply_line(1, 0, 0),
-        Shown::Length => reply_line(5, 0, 0),
-        Shown::Fault(level) => reply_line(6, level, 0),
-    }
-    print_words(&slice[0..n]);
-    end_line();
-}
-
-// Word j becomes 1000 + j.
-fn number_words(slice: &mut [u32])
-    ensures { λ _. ⌜ length (now (slice .exit)) ≡ length (now (slice .entry)) ⌝ }
-{
-    let mut j: u32 = 0;
-    let mut i = 0;
-    while i < slice.len() {
-        slice[i] = 1000 + j % 1000;
-        i += 1;
-        j = (j + 1) % 1000;
-    }
-}
-
-fn print_words(words: &[u32]) {
-    let mut i = 0;
-    while i < words.len() {
-        print_number(words[i]);
-        i += 1;
-    }
-}
-
-fn reply_line(number: u32, first: u32, second: u32) {
-    io::print_decimal(STDOUT_FILENO, number as u64);
-    print_number(first);
-    print_number(second);
-}
-
-fn print_number(n: u32) {
-    io::write_all(STDOUT_FILENO, b" ");
-    io::print_decimal(STDOUT_FILENO, n as u64);
-}
-
-fn end_line() {
-    io::write_all(STDOUT_FILENO, b"\n");
 }
 
 // Where a store's runs end in the script, and how many words they filled.
@@ -198,7 +148,17 @@ fn pair_at(script: &[u8], at: usize) -> Pair
     }
 }
 
-fn least(a: usize, b: usize) -> usize
+fn geometry_at(script: &[u8], at: usize) -> Geometry
+    requires { ⌜ at ≤ length (now script) + 16 ⌝ }
+{
+    Geometry {
+        head: word_at(script, at),
+        ratio: word_at(script, at + 4),
+        levels: word_at(script, at + 8),
+    }
+}
+
+pub fn least(a: usize, b: usize) -> usize
     ensures { λ r. ⌜ (r ≤ a) × (r ≤ b) ⌝ }
 {
     if a < b { a } else { b }

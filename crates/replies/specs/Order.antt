@@ -1,5 +1,5 @@
 -- The paper's section "Numbered replies, in order of test", call by call: the tests as a list in the paper's order, the two late ones included, and
--- what a refusal gives: its number, zeros but for 6 the level first, and every lent word as it was. Assumes nothing.
+-- what a refusal gives: its number, zeros but for 6 the fault's values first, and every lent word as it was. Assumes nothing.
 use Prim.Native.Nat.{ℕ}
 use mathlib.Core.Bool.{Bool, true, false, not, cond}
 use mathlib.Core.List.{List, [], _∷_, _++_}
@@ -11,30 +11,31 @@ use Rattle.geometry.specs.Places.{liveWord}
 use Rattle.slot.specs.declared.Pair.{Pair}
 use Rattle.rules.specs.Listing.{list}
 use Rattle.rules.specs.Store.{emptyStore}
-use Rattle.rules.specs.Sound.{Fault, sound, faultAt, else, geometryOf, treeOf, fault}
+use Rattle.rules.specs.Sound.{Judged, sound, faultAt, inLevel, else, treeOf, fault}
+use Rattle.geometry.specs.Directory.{geometryOf}
 use Rattle.walk.specs.declared.Walked.{Walked}
 use Rattle.walk.specs.declared.Walked.the-variants.{Found, Fault as Fault-of-walk}
 use Rattle.walk.specs.Walk.{walked}
 use Rattle.change.specs.Change.{fillsHead, changeOf}
-use Rattle.index.specs.Reply.{Reply, Test, test}
-use Rattle.index.specs.Opening.{openTests}
-use Rattle.index.specs.List.{Filled, filled, listedReply}
-use Rattle.index.specs.Edit.{Kept, kept, bothTests}
+use Rattle.opening.specs.Reply.{Reply, faultValues, Test, test, Filled, filled}
+use Rattle.opening.specs.Opening.{openTests, bothTests}
+use Rattle.call_check.specs.List.{listedReply}
+use Rattle.call_put.specs.Edit.{Kept, kept}
 
 -- What is tested ----------------------------------------------------------------------------------------------------------------------------
 
 -- What the walk gives: its fault or none, whether the pair is held, and the deciding level.
-abbrev pub faultOf : Walked → Fault
+abbrev pub faultOf : Walked → Judged
 faultOf (Found held level) = sound
-faultOf (Fault-of-walk level) = faultAt level
+faultOf (Fault-of-walk fault) = faultAt fault
 
 abbrev pub heldBy : Walked → Bool
 heldBy (Found held level) = held
-heldBy (Fault-of-walk level) = false
+heldBy (Fault-of-walk fault) = false
 
 abbrev pub decider : Walked → ℕ
 decider (Found held level) = level
-decider (Fault-of-walk level) = 0
+decider (Fault-of-walk fault) = 0
 
 module _ (w : List ℕ) where
   abbrev g : Geometry
@@ -44,19 +45,19 @@ module _ (w : List ℕ) where
   live = getD w liveWord 0
 
   -- List and check test the whole store.
-  unfoldable pub wholeFault : Fault
+  unfoldable pub wholeFault : Judged
   wholeFault = fault g w
 
   -- Live pairs below M, for a put; above none, for a drop, else a fault of level l.
   unfoldable pub belowMost : Bool
   belowMost = ltb live (most g)
 
-  unfoldable pub noneLiveFault : Fault
-  noneLiveFault = elim (ltb 0 live) [ true ↦ sound | false ↦ faultAt (g .levels) ]
+  unfoldable pub noneLiveFault : Judged
+  noneLiveFault = elim (ltb 0 live) [ true ↦ sound | false ↦ faultAt (inLevel (g .levels)) ]
 
   module _ (p : Pair) where
     -- Put, drop and ask look at the directory, the head and each page walked.
-    unfoldable pub walkFault : Fault
+    unfoldable pub walkFault : Judged
     walkFault = faultOf (walked g w p)
 
     unfoldable pub pairHeld : Bool
@@ -67,15 +68,15 @@ module _ (w : List ℕ) where
     wouldMerge = fillsHead g w (eqb (decider (walked g w p)) 0)
 
     -- They test the whole store then.
-    unfoldable pub mergeFault : Fault
+    unfoldable pub mergeFault : Judged
     mergeFault = elim wouldMerge [ true ↦ wholeFault | false ↦ sound ]
 
 -- The order of tests ------------------------------------------------------------------------------------------------------------------------
 
 -- A test of soundness passes where it finds no fault.
-abbrev pub faultless : Fault → Bool
+abbrev pub faultless : Judged → Bool
 faultless sound = true
-faultless (faultAt level) = false
+faultless (faultAt f) = false
 
 unfoldable pub askTests : List ℕ → Pair → List Test
 askTests w p = openTests w ++ test (faultless (walkFault w p)) 6 ∷ []
@@ -96,39 +97,40 @@ dropTests w work p =
     bothTests w work ++
     test (faultless (walkFault w p)) 6 ∷ test (pairHeld w p) 3 ∷ test (faultless (noneLiveFault w)) 6 ∷ test (faultless (mergeFault w p)) 6 ∷ []
 
--- The fault whose level 6 tells, in the same order.
-unfoldable pub putFault : List ℕ → Pair → Fault
+-- The fault that 6 tells, in the same order.
+unfoldable pub putFault : List ℕ → Pair → Judged
 putFault w p = else (walkFault w p) (mergeFault w p)
 
-unfoldable pub dropFault : List ℕ → Pair → Fault
+unfoldable pub dropFault : List ℕ → Pair → Judged
 dropFault w p = else (walkFault w p) (else (noneLiveFault w) (mergeFault w p))
 
 -- What is done where every test passes, and what a refusal gives ------------------------------------------------------------------------
 
-abbrev pub levelOf : Fault → ℕ
-levelOf sound = 0
-levelOf (faultAt level) = level
+-- The first values of a refusal: zeros, but for 6 the fault's.
+abbrev pub judgedValues : Judged → List ℕ
+judgedValues sound = 0 ∷ []
+judgedValues (faultAt f) = faultValues f
 
-unfoldable pub levelTold : ℕ → Fault → ℕ
-levelTold number f = elim (eqb number 6) [ true ↦ levelOf f | false ↦ 0 ]
+unfoldable pub faultTold : ℕ → Judged → List ℕ
+faultTold number j = elim (eqb number 6) [ true ↦ judgedValues j | false ↦ 0 ∷ [] ]
 
 unfoldable pub askDone : List ℕ → Pair → Reply
 askDone w p = record { number = 0; values = cond (pairHeld w p) 1 0 ∷ decider (walked (geometryOf w) w p) ∷ [] }
 
 unfoldable pub askRefused : List ℕ → Pair → ℕ → Reply
-askRefused w p n = record { number = n; values = levelTold n (walkFault w p) ∷ 0 ∷ [] }
+askRefused w p n = record { number = n; values = faultTold n (walkFault w p) ++ 0 ∷ [] }
 
 unfoldable pub checkDone : Reply
 checkDone = record { number = 0; values = 0 ∷ [] }
 
 unfoldable pub checkRefused : List ℕ → ℕ → Reply
-checkRefused w n = record { number = n; values = levelTold n (wholeFault w) ∷ [] }
+checkRefused w n = record { number = n; values = faultTold n (wholeFault w) }
 
 unfoldable pub listDone : List ℕ → Pair → Pair → List ℕ → Filled
 listDone w first second slice = listedReply (list first second (treeOf (geometryOf w) w) slice)
 
 unfoldable pub listRefused : List ℕ → List ℕ → ℕ → Filled
-listRefused w slice n = filled n (levelTold n (wholeFault w) ∷ 0 ∷ []) slice
+listRefused w slice n = filled n (faultTold n (wholeFault w) ++ 0 ∷ []) slice
 
 unfoldable pub formatDone : Geometry → Filled
 formatDone g = filled 0 (0 ∷ []) (emptyStore g)
@@ -142,5 +144,5 @@ editDone w work normal p =
     let c = changeOf (geometryOf w) (record { pair = p; normal = normal }) (eqb (decider (walked (geometryOf w) w p)) 0) w work in
     kept 0 (c .values) (c .store) (c .work)
 
-unfoldable pub editRefused : List ℕ → List ℕ → Fault → ℕ → Kept
-editRefused w work f n = kept n (levelTold n f ∷ 0 ∷ 0 ∷ 0 ∷ 0 ∷ 0 ∷ 0 ∷ []) w work
+unfoldable pub editRefused : List ℕ → List ℕ → Judged → ℕ → Kept
+editRefused w work j n = kept n (faultTold n j ++ 0 ∷ 0 ∷ 0 ∷ 0 ∷ 0 ∷ 0 ∷ []) w work

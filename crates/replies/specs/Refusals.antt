@@ -3,16 +3,16 @@
 use Prim.Native.Nat.{ℕ, zero, suc}
 use mathlib.Core.Path.{_≡_, refl, sym, ap, _∙_}
 use mathlib.Core.Bool.{true, false}
-use mathlib.Core.List.{List, [], _∷_}
+use mathlib.Core.List.{List, [], _∷_, _++_}
 use Rattle.geometry.specs.declared.Geometry.{Geometry}
 use Rattle.slot.specs.declared.Pair.{Pair}
-use Rattle.index.specs.Reply.{Reply, firstFailing, byFirst}
-use Rattle.index.specs.Ask.{askOf}
-use Rattle.index.specs.Check.{checkOf}
-use Rattle.index.specs.List.{Filled, listOf}
-use Rattle.index.specs.Format.{formatTests, formatOf}
-use Rattle.index.specs.Edit.{Kept, putOf, dropOf}
-use Rattle.replies.specs.Order.{wholeFault, walkFault, putFault, dropFault, askTests, checkTests, listTests, putTests, dropTests, levelTold, askDone, askRefused, checkDone, checkRefused, listDone, listRefused, formatDone, formatRefused, editDone, editRefused}
+use Rattle.opening.specs.Reply.{Reply, firstFailing, byFirst, Filled}
+use Rattle.call_ask.specs.Ask.{askOf}
+use Rattle.call_check.specs.Check.{checkOf}
+use Rattle.call_check.specs.List.{listOf}
+use Rattle.call_format.specs.Format.{formatTests, formatOf}
+use Rattle.call_put.specs.Edit.{Kept, putOf, dropOf}
+use Rattle.replies.specs.Order.{wholeFault, walkFault, putFault, dropFault, askTests, checkTests, listTests, putTests, dropTests, faultTold, askDone, askRefused, checkDone, checkRefused, listDone, listRefused, formatDone, formatRefused, editDone, editRefused}
 use Rattle.replies.specs.Ordered.{ask-in-order, check-in-order, list-in-order, format-in-order, put-in-order, drop-in-order}
 
 -- A call x whose first failing test has the number n: it replies n, does its work where that is 0, and refuses with it otherwise.
@@ -70,7 +70,7 @@ module _ (w work : List ℕ) (p : Pair) where
   unfolding editRefused
   put-refusal-keeps h = (ap (λ (r : Kept). r .store) (put-refuses h), ap (λ (r : Kept). r .work) (put-refuses h))
 
-  pub put-refusal-values : (putReplied .number ≡ 0 → ⊥) → putReplied .values ≡ levelTold (putReplied .number) (putFault w p) ∷ 0 ∷ 0 ∷ 0 ∷ 0 ∷ 0 ∷ 0 ∷ []
+  pub put-refusal-values : (putReplied .number ≡ 0 → ⊥) → putReplied .values ≡ faultTold (putReplied .number) (putFault w p) ++ 0 ∷ 0 ∷ 0 ∷ 0 ∷ 0 ∷ 0 ∷ []
   unfolding editRefused
   put-refusal-values h = ap (λ (r : Kept). r .reply .values) (put-refuses h)
 
@@ -96,7 +96,7 @@ module _ (w work : List ℕ) (p : Pair) where
   unfolding editRefused
   drop-refusal-keeps h = (ap (λ (r : Kept). r .store) (drop-refuses h), ap (λ (r : Kept). r .work) (drop-refuses h))
 
-  pub drop-refusal-values : (dropReplied .number ≡ 0 → ⊥) → dropReplied .values ≡ levelTold (dropReplied .number) (dropFault w p) ∷ 0 ∷ 0 ∷ 0 ∷ 0 ∷ 0 ∷ 0 ∷ []
+  pub drop-refusal-values : (dropReplied .number ≡ 0 → ⊥) → dropReplied .values ≡ faultTold (dropReplied .number) (dropFault w p) ++ 0 ∷ 0 ∷ 0 ∷ 0 ∷ 0 ∷ 0 ∷ []
   unfolding editRefused
   drop-refusal-values h = ap (λ (r : Kept). r .reply .values) (drop-refuses h)
 
@@ -118,7 +118,7 @@ module _ (w : List ℕ) (p : Pair) where
   pub ask-refuses : (askReplied .number ≡ 0 → ⊥) → askOf w p ≡ askRefused w p (askReplied .number)
   ask-refuses = ask-ordered .refuses
 
-  pub ask-refusal-values : (askReplied .number ≡ 0 → ⊥) → askReplied .values ≡ levelTold (askReplied .number) (walkFault w p) ∷ 0 ∷ []
+  pub ask-refusal-values : (askReplied .number ≡ 0 → ⊥) → askReplied .values ≡ faultTold (askReplied .number) (walkFault w p) ++ 0 ∷ []
   unfolding askRefused
   ask-refusal-values h = ap (λ (r : Reply). r .values) (ask-refuses h)
 
@@ -140,7 +140,7 @@ module _ (w : List ℕ) where
   pub check-refuses : (checkReplied .number ≡ 0 → ⊥) → checkOf w ≡ checkRefused w (checkReplied .number)
   check-refuses = check-ordered .refuses
 
-  pub check-refusal-values : (checkReplied .number ≡ 0 → ⊥) → checkReplied .values ≡ levelTold (checkReplied .number) (wholeFault w) ∷ []
+  pub check-refusal-values : (checkReplied .number ≡ 0 → ⊥) → checkReplied .values ≡ faultTold (checkReplied .number) (wholeFault w)
   unfolding checkRefused
   check-refusal-values h = ap (λ (r : Reply). r .values) (check-refuses h)
 
@@ -166,7 +166,7 @@ module _ (w : List ℕ) (first second : Pair) (slice : List ℕ) where
   unfolding listRefused
   list-refusal-keeps h = ap (λ (r : Filled). r .words) (list-refuses h)
 
-  pub list-refusal-values : (listReplied .number ≡ 0 → ⊥) → listReplied .values ≡ levelTold (listReplied .number) (wholeFault w) ∷ 0 ∷ []
+  pub list-refusal-values : (listReplied .number ≡ 0 → ⊥) → listReplied .values ≡ faultTold (listReplied .number) (wholeFault w) ++ 0 ∷ []
   unfolding listRefused
   list-refusal-values h = ap (λ (r : Filled). r .reply .values) (list-refuses h)
 

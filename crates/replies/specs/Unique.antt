@@ -7,19 +7,19 @@ use lib.ListN.{getD}
 use lib.Dec.{eqb}
 use Rattle.geometry.specs.declared.Geometry.{Geometry}
 use Rattle.slot.specs.declared.Pair.{Pair}
-use Rattle.index.specs.declared.Asked.{Asked}
-use Rattle.index.specs.declared.Checked.{Checked}
-use Rattle.index.specs.declared.Shown.{Shown}
-use Rattle.index.specs.declared.Asked.the-variants.{Answer, Range, Length, Fault}
-use Rattle.index.specs.declared.Checked.the-variants.{Done, Range as Range-of-check, Length as Length-of-check, Fault as Fault-of-check}
-use Rattle.index.specs.declared.Shown.the-variants.{Pairs, Range as Range-of-list, Length as Length-of-list, Fault as Fault-of-list}
-use Rattle.index.specs.declared.Formatted.{Formatted}
-use Rattle.index.specs.declared.Formatted.the-variants.{Done as Done-of-format, Range as Range-of-format, Length as Length-of-format}
-use Rattle.index.specs.Reply.{Reply}
-use Rattle.index.specs.Ask.{askReply, askOf}
-use Rattle.index.specs.Check.{checkReply, checkOf}
-use Rattle.index.specs.List.{Filled, listReply, listOf}
-use Rattle.index.specs.Format.{formatReply, format-leaves, formatOf}
+use Rattle.call_ask.specs.declared.Asked.{Asked}
+use Rattle.call_check.specs.declared.Checked.{Checked}
+use Rattle.call_check.specs.declared.Shown.{Shown}
+use Rattle.call_ask.specs.declared.Asked.the-variants.{Answer, Range, Length, Fault}
+use Rattle.call_check.specs.declared.Checked.the-variants.{Done, Range as Range-of-check, Length as Length-of-check, Fault as Fault-of-check}
+use Rattle.call_check.specs.declared.Shown.the-variants.{Pairs, Range as Range-of-list, Length as Length-of-list, Fault as Fault-of-list}
+use Rattle.call_format.specs.declared.Formatted.{Formatted}
+use Rattle.call_format.specs.declared.Formatted.the-variants.{Done as Done-of-format, Range as Range-of-format, Length as Length-of-format}
+use Rattle.opening.specs.Reply.{Reply, faultBy, Filled}
+use Rattle.call_ask.specs.Ask.{askReply, askOf}
+use Rattle.call_check.specs.Check.{checkReply, checkOf}
+use Rattle.call_check.specs.List.{listReply, listOf}
+use Rattle.call_format.specs.Format.{formatReply, formatOf}
 
 -- A choice by the reply's number: 0, 1, and 5 or 6 told apart by whether it is 5.
 pick : {A : Type 0} → ℕ → A → A → A → A → A
@@ -29,7 +29,7 @@ pick (suc (suc n)) done range length fault = elim (eqb n 3) [ true ↦ length | 
 
 -- Ask.
 askedBy : Reply → Asked
-askedBy r = pick (r .number) (Answer (eqb (getD (r .values) 0 0) 1) (getD (r .values) 1 0)) Range Length (Fault (getD (r .values) 0 0))
+askedBy r = pick (r .number) (Answer (eqb (getD (r .values) 0 0) 1) (getD (r .values) 1 0)) Range Length (Fault (faultBy (r .values)))
 
 ask-told : (a : Asked) → askedBy (askReply a) ≡ a
 unfolding askedBy pick
@@ -37,21 +37,21 @@ ask-told (Answer true level) = refl
 ask-told (Answer false level) = refl
 ask-told Range = refl
 ask-told Length = refl
-ask-told (Fault level) = refl
+ask-told (Fault fault) = refl
 
 pub ask-has-one-answer : (w : List ℕ) (pair : Pair) (a b : Asked) → askReply a ≡ askOf w pair → askReply b ≡ askOf w pair → a ≡ b
 ask-has-one-answer w pair a b p q = sym (ask-told a) ∙ ap askedBy (p ∙ sym q) ∙ ask-told b
 
 -- Check.
 checkedBy : Reply → Checked
-checkedBy r = pick (r .number) Done Range-of-check Length-of-check (Fault-of-check (getD (r .values) 0 0))
+checkedBy r = pick (r .number) Done Range-of-check Length-of-check (Fault-of-check (faultBy (r .values)))
 
 check-told : (a : Checked) → checkedBy (checkReply a) ≡ a
 unfolding checkedBy pick
 check-told Done = refl
 check-told Range-of-check = refl
 check-told Length-of-check = refl
-check-told (Fault-of-check level) = refl
+check-told (Fault-of-check fault) = refl
 
 pub check-has-one-answer : (w : List ℕ) (a b : Checked) → checkReply a ≡ checkOf w → checkReply b ≡ checkOf w → a ≡ b
 check-has-one-answer w a b p q = sym (check-told a) ∙ ap checkedBy (p ∙ sym q) ∙ check-told b
@@ -60,26 +60,20 @@ check-has-one-answer w a b p q = sym (check-told a) ∙ ap checkedBy (p ∙ sym 
 shownBy : Filled → Shown
 shownBy f =
     let r = f .reply in
-    pick (r .number) (Pairs (getD (r .values) 0 0) (getD (r .values) 1 0)) Range-of-list Length-of-list (Fault-of-list (getD (r .values) 0 0))
+    pick (r .number) (Pairs (getD (r .values) 0 0) (getD (r .values) 1 0)) Range-of-list Length-of-list (Fault-of-list (faultBy (r .values)))
 
 list-told : (a : Shown) (words : List ℕ) → shownBy (listReply a words) ≡ a
 unfolding shownBy pick
 list-told (Pairs pairs mark) words = refl
 list-told Range-of-list words = refl
 list-told Length-of-list words = refl
-list-told (Fault-of-list level) words = refl
-
-words-told : (a : Shown) (words : List ℕ) → (listReply a words) .words ≡ words
-words-told (Pairs pairs mark) words = refl
-words-told Range-of-list words = refl
-words-told Length-of-list words = refl
-words-told (Fault-of-list level) words = refl
+list-told (Fault-of-list fault) words = refl
 
 pub list-has-one-answer : (w : List ℕ) (first second : Pair) (slice : List ℕ) (a b : Shown) (v u : List ℕ) →
     listReply a v ≡ listOf w first second slice → listReply b u ≡ listOf w first second slice → (a ≡ b) × (v ≡ u)
 list-has-one-answer w first second slice a b v u p q = (
   sym (list-told a v) ∙ ap shownBy (p ∙ sym q) ∙ list-told b u,
-  sym (words-told a v) ∙ ap (λ (f : Filled). f .words) (p ∙ sym q) ∙ words-told b u,
+  ap (λ (f : Filled). f .words) (p ∙ sym q),
 )
 
 -- Format, with every word of the store.
@@ -96,5 +90,5 @@ pub format-has-one-answer : (w : List ℕ) (g : Geometry) (a b : Formatted) (v u
     (a ≡ b) × (v ≡ u)
 format-has-one-answer w g a b v u p q = (
   sym (format-told a v) ∙ ap formattedBy (p ∙ sym q) ∙ format-told b u,
-  sym (format-leaves a v) ∙ ap (λ (f : Filled). f .words) (p ∙ sym q) ∙ format-leaves b u,
+  ap (λ (f : Filled). f .words) (p ∙ sym q),
 )

@@ -5,15 +5,16 @@ use mathlib.Core.Path.{_≡_, refl, sym, ap, _∙_}
 use mathlib.Core.List.{List, [], _∷_}
 use lib.ListN.{getD, drop}
 use Rattle.slot.specs.declared.Pair.{Pair}
-use Rattle.index.specs.declared.Edited.{Edited}
-use Rattle.index.specs.declared.Edited.the-variants.{Done, Range, Length, Fault, Held, Missing, Full}
-use Rattle.index.specs.Edit.{Kept, editReply, putOf, dropOf}
+use Rattle.call_put.specs.declared.Edited.{Edited}
+use Rattle.call_put.specs.declared.Edited.the-variants.{Done, Range, Length, Fault, Held, Missing, Full}
+use Rattle.opening.specs.Reply.{faultBy}
+use Rattle.call_put.specs.Edit.{Kept, editReply, putOf, dropOf}
 
 -- The answer by the reply's number, 0 to 6, and the entries behind the three values before them.
 editedBy : Kept → Edited
 editedBy k =
     let v = k .reply .values in
-    getD (Done (getD v 0 0) (getD v 1 0) (getD v 2 0) ∷ Range ∷ Held ∷ Missing ∷ Full ∷ Length ∷ []) (k .reply .number) (Fault (getD v 0 0))
+    getD (Done (getD v 0 0) (getD v 1 0) (getD v 2 0) ∷ Range ∷ Held ∷ Missing ∷ Full ∷ Length ∷ []) (k .reply .number) (Fault (faultBy v))
 
 module _ (entries store work : List ℕ) where
   answer-told : (a : Edited) → editedBy (editReply a entries store work) ≡ a
@@ -21,7 +22,7 @@ module _ (entries store work : List ℕ) where
   answer-told (Done live deepest pages) = refl
   answer-told Range = refl
   answer-told Length = refl
-  answer-told (Fault level) = refl
+  answer-told (Fault fault) = refl
   answer-told Held = refl
   answer-told Missing = refl
   answer-told Full = refl
@@ -30,28 +31,10 @@ module _ (entries store work : List ℕ) where
   entries-told (Done live deepest pages) = refl
   entries-told Range = refl
   entries-told Length = refl
-  entries-told (Fault level) = refl
+  entries-told (Fault fault) = refl
   entries-told Held = refl
   entries-told Missing = refl
   entries-told Full = refl
-
-  store-told : (a : Edited) → (editReply a entries store work) .store ≡ store
-  store-told (Done live deepest pages) = refl
-  store-told Range = refl
-  store-told Length = refl
-  store-told (Fault level) = refl
-  store-told Held = refl
-  store-told Missing = refl
-  store-told Full = refl
-
-  work-told : (a : Edited) → (editReply a entries store work) .work ≡ work
-  work-told (Done live deepest pages) = refl
-  work-told Range = refl
-  work-told Length = refl
-  work-told (Fault level) = refl
-  work-told Held = refl
-  work-told Missing = refl
-  work-told Full = refl
 
 module _ (a b : Edited) (m n v u x y : List ℕ) where
   one-answer : (k : Kept) → editReply a m v x ≡ k → editReply b n u y ≡ k → (a ≡ b) × (m ≡ n) × (v ≡ u) × (x ≡ y)
@@ -59,8 +42,8 @@ module _ (a b : Edited) (m n v u x y : List ℕ) where
       let e = p ∙ sym q in (
         sym (answer-told m v x a) ∙ ap editedBy e ∙ answer-told n u y b,
         sym (entries-told m v x a) ∙ ap (λ (k : Kept). drop 3 (k .reply .values)) e ∙ entries-told n u y b,
-        sym (store-told m v x a) ∙ ap (λ (k : Kept). k .store) e ∙ store-told n u y b,
-        sym (work-told m v x a) ∙ ap (λ (k : Kept). k .work) e ∙ work-told n u y b,
+        ap (λ (k : Kept). k .store) e,
+        ap (λ (k : Kept). k .work) e,
       )
 
   pub put-has-one-answer : (w work : List ℕ) (pair : Pair) → editReply a m v x ≡ putOf w work pair → editReply b n u y ≡ putOf w work pair →

@@ -20,7 +20,8 @@ use Rattle.rules.specs.Finding.{find, held, atMost, stepBack, tellFrom, 
 use Rattle.rules.specs.Merging.{toggle, join, merge, pagesWritten, settle, toggleHead, edit, formatted, entries, Outcome, refused, done, put, remove}
 use Rattle.rules.specs.Listing.{insert, pairsWith, pairsOf, heldBetween, pairWords, list}
 use Rattle.rules.specs.Store.{runWords, pageWords, levelWords, pageCount, directory, laidOut, writing}
-use Rattle.rules.specs.Sound.{pagesOf, slotsFrom, headSlots, countAt, pageSlots, levelSlots, entriesOf, firstAt, treeOf, pagesRight, directoryRight, follows, inOrder, legal, fencePages, firstIsLeast, headRight, countRight, pageFormed, ascending, levelLaid, withinCapacity, levelSound, headSound, alternating, countKind, liveRight, Fault, sound, faultAt, levelsFault, acrossFault, else, fault}
+use Rattle.rules.specs.Sound.{slotsFrom, headSlots, countAt, pageSlots, levelSlots, entriesOf, firstAt, treeOf, pagesRight, directoryRight, follows, inOrder, legal, fencePages, firstIsLeast, headRight, countRight, pageFormed, ascending, levelLaid, withinCapacity, levelSound, headSound, alternating, countKind, liveRight, Judged, sound, faultAt, levelsFault, acrossFault, else, fault}
+use Rattle.geometry.specs.Directory.{pagesOf}
 use Rattle.rules.specs.Requests.{Request, putting, dropping, step, run, final, accepted, writes}
 use Rattle.rules.specs.Allowance.{allowedTo, allowed}
 
@@ -32,8 +33,8 @@ unfoldable pub drops : ℕ → ℕ → ℕ → List Request
 drops floor first n = span (λ b. dropping (pair b floor)) first n
 
 -- What a case looks at: of the calls, their replies, deepest levels and pages written; of the end, live pairs, entries in each level, page
--- counts, a slot's three words, an answer with the pages read, a list of badges at floor 0 into a slice, the fault of the whole store; pages
--- written in all and those allowed; a fence's tag and its page read back.
+-- counts, a slot's three words, a word of the store, an answer with the pages read, a list of badges at floor 0 into a slice, the fault of the
+-- whole store; pages written in all and those allowed; a fence's tag and its page read back.
 pub data Look : Type 0 where
   replies : Look
   deepest : Look
@@ -42,6 +43,7 @@ pub data Look : Type 0 where
   counts : Look
   pageCounts : Look
   slot : ℕ → ℕ → ℕ → Look
+  word : ℕ → Look
   asked : ℕ → Look
   listed : ℕ → ℕ → List ℕ → Look
   soundness : Look
@@ -54,9 +56,9 @@ bit true = 1
 bit false = 0
 
 -- 0 for a sound store, else one more than the level told.
-abbrev pub faultNumber : Fault → ℕ
+abbrev pub faultNumber : Judged → ℕ
 faultNumber sound = 0
-faultNumber (faultAt i) = suc i
+faultNumber (faultAt f) = suc (f .level)
 
 -- Page counts of levels 1 on.
 unfoldable pub pagesIn : List (List Slot) → List ℕ
@@ -71,6 +73,7 @@ seen g os live = (final (formatted g) os) .live ∷ []
 seen g os counts = entries ((final (formatted g) os) .tree)
 seen g os pageCounts = pagesIn (slotsOf ((final (formatted g) os) .tree))
 seen g os (slot i p j) = wordsOf (getD (getD (slotsOf ((final (formatted g) os) .tree)) i []) (21 * p + j) (external least 0))
+seen g os (word i) = getD (writing g (final (formatted g) os)) i 0 ∷ []
 seen g os (asked b) = let a = ask (pair b 0) (slotsOf ((final (formatted g) os) .tree)) in bit (a .isHeld) ∷ a .decider ∷ a .read
 seen g os (listed first second slice) =
     let l = list (pair first 0) (pair second 0) ((final (formatted g) os) .tree) slice in
@@ -223,13 +226,14 @@ smallerBadge = record {
 }
 
 -- At equal pairs a fence stands before an index entry: put 1..40 sinks to the two pages of level 2, and of the filters 20..29 that
--- then stand in level 1 the one of 22 comes after the fence of page 1.
+-- then stand in level 1 the one of 22 comes after the fence of page 1. Words 47 and 368 are the head's last one and the first one of level 2's
+-- page 2, both unused.
 unfoldable pub fenceFirst : Case
 fenceFirst = record {
   geometry = sized 10 4 3;
   calls = puts 0 1 40 ++ drops 0 20 10;
-  looks = pageCounts ∷ slot 1 0 3 ∷ slot 1 0 4 ∷ asked 22 ∷ soundness ∷ [];
-  shows = (1 ∷ 2 ∷ []) ∷ (22 ∷ 0 ∷ 6 ∷ []) ∷ (22 ∷ 0 ∷ 1 ∷ []) ∷ (0 ∷ 1 ∷ 0 ∷ []) ∷ (0 ∷ 752 ∷ []) ∷ [];
+  looks = pageCounts ∷ slot 1 0 3 ∷ slot 1 0 4 ∷ word 47 ∷ word 368 ∷ asked 22 ∷ soundness ∷ [];
+  shows = (1 ∷ 2 ∷ []) ∷ (22 ∷ 0 ∷ 6 ∷ []) ∷ (22 ∷ 0 ∷ 1 ∷ []) ∷ (4294967295 ∷ []) ∷ (4294967295 ∷ []) ∷ (0 ∷ 1 ∷ 0 ∷ []) ∷ (0 ∷ 752 ∷ []) ∷ [];
 }
 
 unfoldable pub table : List Case

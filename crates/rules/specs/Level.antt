@@ -11,6 +11,7 @@ use Rattle.slot.specs.declared.Kind.{Kind}
 use Rattle.slot.specs.declared.Kind.the-variants.{Normal, Filter, External, Internal}
 use Rattle.slot.specs.Pair.{least, before}
 use Rattle.rules.specs.Tree.{Entry, Level}
+use Rattle.geometry.specs.Places.{slotsInPage}
 
 -- Index entries have page number 0. A fence names a page of the level below.
 unfoldable pub index : Entry → Slot
@@ -30,14 +31,14 @@ fenceKind Internal = true
 
 -- Every level has at least one page: n slots, 21 to a page.
 unfoldable pub pagesFor : ℕ → ℕ
-pagesFor n = max 1 ((n + 20) / 21)
+pagesFor n = max 1 ((n + 20) / slotsInPage)
 
 -- The slots of page p, and the pair in its first slot.
 unfoldable pub pageOf : List Slot → ℕ → List Slot
-pageOf slots p = take 21 (drop (21 * p) slots)
+pageOf slots p = take slotsInPage (drop (slotsInPage * p) slots)
 
 unfoldable pub firstOf : List Slot → ℕ → Pair
-firstOf slots p = (getD slots (21 * p) (external least 0)) .pair
+firstOf slots p = (getD slots (slotsInPage * p) (external least 0)) .pair
 
 -- One external fence for each page of the level below. The fence of page 0 carries the least pair, the fence of page p > 0 the pair in
 -- that page's first slot.
@@ -64,8 +65,8 @@ unfoldable pub paged : ℕ → ℕ → List Slot → List Slot
 paged j last [] = []
 paged j last (s ∷ ss) =
     elim (fenceKind (s .kind)) [
-      | true ↦ s ∷ paged ((j + 1) % 21) (s .page .0) ss
-      | false ↦ elim (eqb j 0) [ true ↦ internal (s .pair) last ∷ s ∷ paged 2 last ss | false ↦ s ∷ paged ((j + 1) % 21) last ss ]
+      | true ↦ s ∷ paged ((j + 1) % slotsInPage) (s .page .0) ss
+      | false ↦ elim (eqb j 0) [ true ↦ internal (s .pair) last ∷ s ∷ paged 2 last ss | false ↦ s ∷ paged ((j + 1) % slotsInPage) last ss ]
     ]
 
 -- A level's entries with a fence for each page of the level below, which is given by its slots.

@@ -8,6 +8,7 @@
 --   Listing   "List"
 --   Store     the writing of a whole store, word by word
 --   Sound     "Sound stores"
+--   Directed  laws of a right directory
 --   Pages     laws of the number of pages that slots take
 --   Woven     laws of entries woven with fences
 --   Paged     laws of a row cut into pages
@@ -24,6 +25,7 @@ pub mod Merging
 pub mod Listing
 pub mod Store
 pub mod Sound
+pub mod Directed
 pub mod Pages
 pub mod Woven
 pub mod Paged

@@ -6,9 +6,10 @@ use mathlib.Core.List.{List, [], _∷_, map}
 use lib.ListN.{length, getD, take, drop}
 use lib.Dec.{ltb, leb, eqb}
 use Rattle.laws.specs.Lists.{span, concat, passing, all, equal}
+use Rattle.fault.specs.declared.Fault.{Fault}
 use Rattle.geometry.specs.declared.Geometry.{Geometry}
 use Rattle.geometry.specs.Geometry.{bottom, capacity, most, room}
-use Rattle.geometry.specs.Places.{headWord, ratioWord, levelsWord, liveWord, pagesWord, reservedWord, headCountWord, headStart, headRoom, levelStart, pagePlace, slotPlace}
+use Rattle.geometry.specs.Places.{headWord, ratioWord, levelsWord, liveWord, pagesWord, modeWord, openMode, headCountWord, headStart, headRoom, levelStart, pagePlace, slotPlace, slotsInPage, wordsInSlot, wordsInPage}
 use Rattle.slot.specs.declared.Pair.{Pair}
 use Rattle.slot.specs.declared.Slot.{Slot}
 use Rattle.slot.specs.declared.Kind.{Kind}
@@ -19,19 +20,13 @@ use Rattle.rules.specs.Tree.{Level, Tree}
 use Rattle.rules.specs.Level.{index, fenceKind, pagesFor, fences, weave, paged}
 use Rattle.rules.specs.Finding.{normalKind, held}
 use Rattle.rules.specs.Store.{runWords, levelWords}
+use Rattle.geometry.specs.Directory.{pagesOf, pagesOf}
 
 -- What stands in a store's words, as they are -------------------------------------------------------------------------------------------
 
-unfoldable pub geometryOf : List ℕ → Geometry
-geometryOf w = record { head = getD w headWord 0; ratio = getD w ratioWord 0; levels = getD w levelsWord 0 }
-
--- The page count that the directory gives level i, none below the bottom.
-unfoldable pub pagesOf : Geometry → List ℕ → ℕ → ℕ
-pagesOf g w i = elim (ltb i (g .levels)) [ true ↦ getD w (pagesWord i) 0 | false ↦ 0 ]
-
 -- n slots from a place on; the head's slots; the slots of a page, whose count above 21 is read as 21; those of a level.
 unfoldable pub slotsFrom : List ℕ → ℕ → ℕ → List Slot
-slotsFrom w at n = span (λ j. slotAt w (at + 3 * j)) 0 n
+slotsFrom w at n = span (λ j. slotAt w (at + wordsInSlot * j)) 0 n
 
 unfoldable pub headSlots : Geometry → List ℕ → List Slot
 headSlots g w = slotsFrom w headStart (min (getD w headCountWord 0) (headRoom g))
@@ -40,7 +35,7 @@ unfoldable pub countAt : Geometry → List ℕ → ℕ → ℕ → ℕ
 countAt g w i p = getD w (pagePlace g i p) 0
 
 unfoldable pub pageSlots : Geometry → List ℕ → ℕ → ℕ → List Slot
-pageSlots g w i p = slotsFrom w (slotPlace g i p 0) (min (countAt g w i p) 21)
+pageSlots g w i p = slotsFrom w (slotPlace g i p 0) (min (countAt g w i p) slotsInPage)
 
 unfoldable pub levelSlots : Geometry → List ℕ → ℕ → List Slot
 levelSlots g w i = concat (span (pageSlots g w i) 0 (pagesOf g w i))
@@ -67,7 +62,7 @@ pagesRight g w i =
     elim (ltb i (g .levels)) [ true ↦ leb 1 n && leb n (room g i) | false ↦ eqb n 0 ]
 
 unfoldable pub directoryRight : Geometry → List ℕ → Bool
-directoryRight g w = leb (getD w liveWord 0) (most g) && all (pagesRight g w) (1 ∷ 2 ∷ 3 ∷ []) && eqb (getD w reservedWord 0) 0
+directoryRight g w = leb (getD w liveWord 0) (most g) && all (pagesRight g w) (1 ∷ 2 ∷ 3 ∷ []) && eqb (getD w modeWord 0) openMode
 
 -- Slot order and legal tags ---------------------------------------------------------------------------------------------------------------
 
@@ -113,7 +108,7 @@ headRight g w =
 unfoldable pub countRight : Geometry → List ℕ → ℕ → ℕ → Bool
 countRight g w i p =
     let n = countAt g w i p in
-    leb n 21 && (leb 1 n || (eqb i (bottom g) && eqb (pagesOf g w i) 1))
+    leb n slotsInPage && (leb 1 n || (eqb i (bottom g) && eqb (pagesOf g w i) 1))
 
 unfoldable pub pageFormed : Geometry → List ℕ → ℕ → ℕ → Bool
 pageFormed g w i p = countRight g w i p && inOrder (pageSlots g w i p) && all (legal true (pagesOf g w (suc i))) (pageSlots g w i p)
@@ -148,14 +143,14 @@ levelSound g w i =
     let es = entriesOf (levelSlots g w i) in
     let slots = levelLaid g w i es in
     all (pageFormed g w i) (span (λ p. p) 0 (pagesOf g w i)) && ascending es && eqb (pagesFor (length slots)) (pagesOf g w i) &&
-    equal (take (64 * room g i) (drop (levelStart g i) w)) (levelWords slots (room g i)) && withinCapacity g i (length es)
+    equal (take (wordsInPage * room g i) (drop (levelStart g i) w)) (levelWords slots (room g i)) && withinCapacity g i (length es)
 
 -- So is the head, with external fences alone, in its own room.
 unfoldable pub headSound : Geometry → List ℕ → Bool
 headSound g w =
     let slots = weave (entriesOf (headSlots g w)) (fences (firstAt g w 1) (pagesOf g w 1)) in
     headRight g w && eqb (length slots) (getD w headCountWord 0) &&
-    equal (take (3 * headRoom g) (drop headStart w)) (runWords slots (headRoom g))
+    equal (take (wordsInSlot * headRoom g) (drop headStart w)) (runWords slots (headRoom g))
 
 -- For each pair, its entries from the top down alternate in kind and the lowest is normal: each is normal exactly if the pair is not
 -- held below.
@@ -170,25 +165,28 @@ countKind normal t = length (passing (λ e. Bool·beq normal (e .normal)) (conca
 unfoldable pub liveRight : ℕ → Tree → Bool
 liveRight live t = eqb (live + countKind false t) (countKind true t)
 
--- The level that reply 6 tells: none, or 0 for the directory or the head, else the first faulty level from the top, l for kinds,
--- alternation or live across levels.
-pub data Fault : Type 0 where
-  sound : Fault
-  faultAt : ℕ → Fault
+-- What a test finds: nothing, or a fault, in level 0 for the directory or the head, else in the first faulty level from the top, in l for
+-- kinds, alternation or live across levels.
+pub data Judged : Type 0 where
+  sound : Judged
+  faultAt : Fault → Judged
+
+abbrev pub inLevel : ℕ → Fault
+inLevel i = record { level = i }
 
 -- Of n levels from level i on, the first that is faulty.
-unfoldable pub levelsFault : Geometry → List ℕ → ℕ → ℕ → Fault
+unfoldable pub levelsFault : Geometry → List ℕ → ℕ → ℕ → Judged
 levelsFault g w i zero = sound
-levelsFault g w i (suc n) = elim (levelSound g w i) [ true ↦ levelsFault g w (suc i) n | false ↦ faultAt i ]
+levelsFault g w i (suc n) = elim (levelSound g w i) [ true ↦ levelsFault g w (suc i) n | false ↦ faultAt (inLevel i) ]
 
 -- Kinds, alternation and live across levels.
-unfoldable pub acrossFault : Geometry → List ℕ → Fault
-acrossFault g w = elim (alternating (treeOf g w) && liveRight (getD w liveWord 0) (treeOf g w)) [ true ↦ sound | false ↦ faultAt (g .levels) ]
+unfoldable pub acrossFault : Geometry → List ℕ → Judged
+acrossFault g w = elim (alternating (treeOf g w) && liveRight (getD w liveWord 0) (treeOf g w)) [ true ↦ sound | false ↦ faultAt (inLevel (g .levels)) ]
 
 -- Where the first finds nothing, the second is looked for.
-unfoldable pub else : Fault → Fault → Fault
+unfoldable pub else : Judged → Judged → Judged
 else sound later = later
-else (faultAt i) later = faultAt i
+else (faultAt f) later = faultAt f
 
-unfoldable pub fault : Geometry → List ℕ → Fault
-fault g w = elim (directoryRight g w && headSound g w) [ true ↦ else (levelsFault g w 1 (bottom g)) (acrossFault g w) | false ↦ faultAt 0 ]
+unfoldable pub fault : Geometry → List ℕ → Judged
+fault g w = elim (directoryRight g w && headSound g w) [ true ↦ else (levelsFault g w 1 (bottom g)) (acrossFault g w) | false ↦ faultAt (inLevel 0) ]

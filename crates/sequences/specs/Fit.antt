@@ -8,17 +8,17 @@ use lib.Seq.{length-take-le}
 use Rattle.geometry.specs.declared.Geometry.{Geometry}
 use Rattle.geometry.specs.declared.Plan.{Plan}
 use Rattle.geometry.specs.Geometry.{InRange, bottom, most}
-use Rattle.geometry.specs.Places.{levelStart, planOf, storeWords, workWords}
+use Rattle.geometry.specs.Places.{levelStart, planOf, storeWords, workWords, directoryWords}
 use Rattle.geometry.specs.Bounds.{PlanSmall, capacity-least, capacity-small, room-least}
 use Rattle.geometry.specs.Apart.{plan-small, level-inside}
 use Rattle.geometry.specs.Lent.{Lent, lent, most-at, starts-at, plan-words}
 use Rattle.sequences.specs.declared.Sequence.{Sequence}
 
--- M is 1 to 32,768, and the directory and the head lie inside a store of so many words.
+-- M is 1 to 32,768, and the directory and the head lie inside a store of `words` words.
 pub record Fit (s : Sequence) (words : ℕ) : Type 0 where
   pub most-least : 1 ≤ s .most
   pub most-most : s .most ≤ 32768
-  pub head-least : 9 ≤ s .«head_words»
+  pub head-least : directoryWords ≤ s .«head_words»
   pub head-most : s .«head_words» ≤ words
 
 -- A work area has words, and they can be numbered.

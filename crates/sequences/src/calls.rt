@@ -10,12 +10,15 @@ use crate::digests::add_words;
 use crate::draws::draw;
 use crate::draws::draw_pair;
 use crate::number_words;
-use index::Asked;
-use index::Changed;
-use index::Checked;
-use index::Edited;
-use index::Shown;
+use index::EditReply;
+use index::ask_reply;
+use index::check_reply;
+use index::edit_reply;
+use index::list_reply;
 use slot::Pair;
+
+// The reply to a put into a full store.
+const FULL: u32 = 4;
 
 // Makes one call.
 pub fn call(s: Sequence, state: State, store: &mut [u32], work: &mut [u32]) -> State
@@ -52,7 +55,7 @@ fn noted(state: State, x: u32, replies: Digest) -> State {
     }
 }
 
-// Puts a pair, lent the work area without so many of its last words.
+// Puts a pair. It is lent the work area without its last `short` words.
 fn put_call(s: Sequence, state: State, store: &mut [u32], work: &mut [u32], short: usize) -> State
     requires { ⌜ Fit s (length (now store)) ⌝ }
     requires { ⌜ short ≤ length (now work) ⌝ }
@@ -60,10 +63,11 @@ fn put_call(s: Sequence, state: State, store: &mut [u32], work: &mut [u32], shor
     let drawn = draw_pair(state.x, s.most);
     let pair = drawn.pair;
     let lent = work.len() - short;
-    let changed = index::put(store, &mut work[0..lent], pair);
+    let reply = edit_reply(index::put(store, &mut work[0..lent], pair));
+    let values = reply.values;
     let before = state.replies;
-    let replies = add_changed(before, changed);
-    if !is_full(changed) {
+    let replies = add_reply(before, reply.number, &values);
+    if reply.number != FULL {
         return noted(state, drawn.x, replies);
     }
     let next = draw(drawn.x, 4);
@@ -79,30 +83,19 @@ fn drop_call(s: Sequence, state: State, store: &mut [u32], work: &mut [u32]) -> 
 {
     let drawn = draw_pair(state.x, s.most);
     let pair = drawn.pair;
-    let changed = index::drop(store, work, pair);
+    let reply = edit_reply(index::drop(store, work, pair));
+    let values = reply.values;
     let before = state.replies;
     State {
         x: drawn.x,
-        filling: state.filling || is_low(s.most, changed),
-        replies: add_changed(before, changed),
-    }
-}
-
-fn is_full(changed: Changed) -> bool {
-    let answer = changed.answer;
-    match answer {
-        Edited::Full => true,
-        _ => false,
+        filling: state.filling || is_low(s.most, reply),
+        replies: add_reply(before, reply.number, &values),
     }
 }
 
 // Whether a drop was accepted and left a quarter of the most live pairs, or fewer.
-fn is_low(most: u32, changed: Changed) -> bool {
-    let answer = changed.answer;
-    match answer {
-        Edited::Done(live, _, _) => live <= most / 4,
-        _ => false,
-    }
+fn is_low(most: u32, reply: EditReply) -> bool {
+    reply.number == 0 && reply.values[0] <= most / 4
 }
 
 fn ask_call(s: Sequence, state: State, store: &[u32]) -> State
@@ -111,27 +104,16 @@ fn ask_call(s: Sequence, state: State, store: &[u32]) -> State
     let drawn = draw_pair(state.x, s.most);
     let pair = drawn.pair;
     let before = state.replies;
-    let replies = match index::ask(store, pair) {
-        Asked::Answer(held, level) => {
-            let number = if held { 1 } else { 0 };
-            add_word(add_reply(before, 0, number), level)
-        }
-        Asked::Range => add_reply(before, 1, 0),
-        Asked::Length => add_reply(before, 5, 0),
-        Asked::Fault(level) => add_reply(before, 6, level),
-    };
-    noted(state, drawn.x, replies)
+    let reply = ask_reply(index::ask(store, pair));
+    let values = reply.values;
+    noted(state, drawn.x, add_reply(before, reply.number, &values))
 }
 
 fn check_call(state: State, store: &[u32]) -> State {
     let before = state.replies;
-    let replies = match index::check(store) {
-        Checked::Done => add_reply(before, 0, 0),
-        Checked::Range => add_reply(before, 1, 0),
-        Checked::Length => add_reply(before, 5, 0),
-        Checked::Fault(level) => add_reply(before, 6, level),
-    };
-    noted(state, state.x, replies)
+    let reply = check_reply(index::check(store));
+    let values = reply.values;
+    noted(state, state.x, add_reply(before, reply.number, &values))
 }
 
 // Lists from one pair to another into fewer than 50 words.
@@ -157,35 +139,19 @@ fn add_list(
     second: Pair,
     slice: &mut [u32],
 ) -> Digest {
-    let told = match index::list(store, first, second, slice) {
-        Shown::Pairs(pairs, mark) => add_word(add_reply(replies, 0, pairs), mark),
-        Shown::Range => add_reply(replies, 1, 0),
-        Shown::Length => add_reply(replies, 5, 0),
-        Shown::Fault(level) => add_reply(replies, 6, level),
-    };
-    add_words(told, slice)
+    let reply = list_reply(index::list(store, first, second, slice));
+    let values = reply.values;
+    add_words(add_reply(replies, reply.number, &values), slice)
 }
 
-// The digest of replies with the answer of a put or a drop.
-fn add_changed(replies: Digest, changed: Changed) -> Digest {
-    let entries = changed.entries;
-    let answer = changed.answer;
-    match answer {
-        Edited::Done(live, deepest, pages) => {
-            let told = add_word(add_word(add_reply(replies, 0, live), deepest), pages);
-            let two = add_word(add_word(told, entries[0]), entries[1]);
-            add_word(add_word(two, entries[2]), entries[3])
-        }
-        Edited::Range => add_reply(replies, 1, 0),
-        Edited::Length => add_reply(replies, 5, 0),
-        Edited::Fault(level) => add_reply(replies, 6, level),
-        Edited::Held => add_reply(replies, 2, 0),
-        Edited::Missing => add_reply(replies, 3, 0),
-        Edited::Full => add_reply(replies, 4, 0),
+// The digest of replies with a reply: its number and its values, of a refusal the first value alone.
+fn add_reply(replies: Digest, number: u32, values: &[u32]) -> Digest {
+    let told = add_word(replies, number);
+    if number == 0 {
+        return add_words(told, values);
     }
-}
-
-// The digest of replies with a reply's number and one value.
-fn add_reply(replies: Digest, number: u32, value: u32) -> Digest {
-    add_word(add_word(replies, number), value)
+    if values.len() == 0 {
+        return told;
+    }
+    add_word(told, values[0])
 }

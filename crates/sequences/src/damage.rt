@@ -26,7 +26,7 @@ pub fn damage_word(s: Sequence, x: u32, store: &mut [u32]) -> u32
     if how.number == 4 { some.x } else { how.x }
 }
 
-// A place among so many words, every second time among the first ones, the directory and the head.
+// A place among the words of a store, every second time in the directory or the head.
 fn draw_place(x: u32, head: u32, words: usize) -> Place
     requires { ⌜ (0 < head) × (head ≤ words) ⌝ }
     ensures { λ r. ⌜ r .at < words ⌝ }

@@ -126,7 +126,7 @@ fn run(s: Sequence, store: &mut [u32], work: &mut [u32])
     }
 }
 
-// One call, with what comes before it and the line after it; so many calls are made then.
+// Makes call number `calls`, with what comes before it, and prints the line after it.
 fn turn(s: Sequence, before: State, calls: u32, store: &mut [u32], work: &mut [u32]) -> State
     requires { ⌜ Fit s (length (now store)) ⌝ }
     requires { ⌜ WorkFit (length (now work)) ⌝ }
@@ -140,7 +140,7 @@ fn turn(s: Sequence, before: State, calls: u32, store: &mut [u32], work: &mut [u
     after
 }
 
-// Whether a line is printed after so many calls.
+// Whether a line is printed after `calls` calls.
 fn is_told(s: Sequence, calls: u32) -> bool {
     if calls == s.calls {
         return true;
@@ -189,11 +189,7 @@ fn start(s: Sequence, state: State, store: &mut [u32], work: &mut [u32]) -> Stat
     clear_words(store);
     number_words(work, 0);
     let g = s.geometry;
-    let number = match index::format(store, g) {
-        index::Formatted::Done => 0,
-        index::Formatted::Range => 1,
-        index::Formatted::Length => 5,
-    };
+    let number = index::format_reply(index::format(store, g));
     let replies = state.replies;
     State {
         x: state.x,

@@ -1,7 +1,7 @@
--- What a sheet prints (Text), that its last lines are of the store as it stands then (Counts), and how the text comes into the buffer (Printed).
+-- What a sheet prints (Text), and that the promise allows one text alone (Unique); how the text comes into the buffer call by call (Playing), the words
+-- that the calls begin with (Zeros), and what the buffer gets (Buffer).
 pub mod Text
-pub mod Counts
-pub mod Answers
-pub mod Printed
+pub mod Unique
 pub mod Playing
-pub mod Begun
+pub mod Zeros
+pub mod Buffer

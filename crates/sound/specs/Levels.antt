@@ -14,7 +14,7 @@ use Rattle.geometry.specs.declared.Geometry.{Geometry}
 use Rattle.geometry.specs.declared.Plan.{Plan}
 use Rattle.geometry.specs.Geometry.{bottom, capacity, most}
 use Rattle.geometry.specs.Lent.{Lent, capacities-at}
-use Rattle.rules.specs.Sound.{Fault, sound, faultAt, directoryRight, headRight, headSound, levelSound, levelsFault, acrossFault, else, fault, alternating, liveRight, treeOf, withinCapacity}
+use Rattle.rules.specs.Sound.{Judged, sound, faultAt, inLevel, directoryRight, headRight, headSound, levelSound, levelsFault, acrossFault, else, fault, alternating, liveRight, treeOf, withinCapacity}
 use Rattle.geometry.specs.Places.{liveWord}
 use Rattle.written.specs.Parts.{head-sound-parts}
 use Rattle.entries.specs.Levels.{PagesWithin}
@@ -24,9 +24,9 @@ use Rattle.sound.specs.declared.Whole.{Whole}
 use Rattle.sound.specs.declared.Whole.the-variants.{Sound}
 use Rattle.sound.specs.declared.Whole.the-variants.{Fault as Faulty}
 
-abbrev pub wholeTold : Whole → Fault
+abbrev pub wholeTold : Whole → Judged
 wholeTold Sound = sound
-wholeTold (Faulty i) = faultAt i
+wholeTold (Faulty f) = faultAt f
 
 -- A level's capacity, read from the list of capacities.
 unfoldable pub capacityHolds : List ℕ → Geometry → ℕ → ℕ → Bool
@@ -50,7 +50,7 @@ module _ (g : Geometry) (w : List ℕ) (i n : ℕ) where
       let s : n - i ≡ suc (n - (i + 1)) = omega arith in
       rw (s, levelsFault, e, add-one i)
 
-  pub level-fails : i < n → levelSound g w i ≡ false → levelsFault g w i (n - i) ≡ faultAt i
+  pub level-fails : i < n → levelSound g w i ≡ false → levelsFault g w i (n - i) ≡ faultAt (inLevel i)
   unfolding levelsFault
   level-fails h e =
       let s : n - i ≡ suc (n - (i + 1)) = omega arith in
@@ -76,11 +76,11 @@ module _ (t : ℕ → Bool) (p n : ℕ) where
 
 -- The whole: by the first part that fails.
 module _ (g : Geometry) (w : List ℕ) where
-  pub fault-directory : directoryRight g w ≡ false → faultAt 0 ≡ fault g w
+  pub fault-directory : directoryRight g w ≡ false → faultAt (inLevel 0) ≡ fault g w
   unfolding fault
   fault-directory e = rw (e, fault)
 
-  pub fault-head : directoryRight g w ≡ true → headSound g w ≡ false → faultAt 0 ≡ fault g w
+  pub fault-head : directoryRight g w ≡ true → headSound g w ≡ false → faultAt (inLevel 0) ≡ fault g w
   unfolding fault
   fault-head d e = rw (d, e, fault)
 
@@ -101,6 +101,6 @@ unfolding acrossFault
 across-right g w e = rw (e, acrossFault)
 
 pub across-wrong : (g : Geometry) (w : List ℕ) → (alternating (treeOf g w) && liveRight (getD w liveWord 0) (treeOf g w)) ≡ false →
-    faultAt (g .levels) ≡ acrossFault g w
+    faultAt (inLevel (g .levels)) ≡ acrossFault g w
 unfolding acrossFault
 across-wrong g w e = rw (e, acrossFault)

@@ -8,31 +8,35 @@ ghost use Rattle.laws.specs.Lists.{span, all};
 ghost use Rattle.geometry.specs.Geometry.{bottom, room};
 ghost use Rattle.geometry.specs.Places.{levelStart};
 ghost use Rattle.geometry.specs.Lent.{Lent};
-ghost use Rattle.rules.specs.Sound.{directoryRight, pagesOf, pageFormed, headSound, levelSound, levelsFault, acrossFault, fault, entriesOf, treeOf};
-ghost use Rattle.written.specs.Written.{levelRun, levelWritten};
+ghost use Rattle.rules.specs.Sound.{directoryRight, pageFormed, headSound, levelSound, levelsFault, acrossFault, fault, entriesOf, treeOf};
+ghost use Rattle.geometry.specs.Directory.{pagesOf};
+ghost use Rattle.written.specs.Written.{levelWritten};
+ghost use Rattle.layout.specs.Words.{levelRun};
 ghost use Rattle.entries.specs.Levels.{PagesWithin};
 ghost use Rattle.entries.specs.Ascending.{levelsAscend};
 ghost use Rattle.sound.specs.Levels.{capacityHolds, wholeTold};
+use fault::Fault;
+use form::directory_right;
+use form::head_scan;
+use form::page_scan;
 use geometry::Geometry;
 use geometry::HEAD_COUNT;
 use geometry::HEAD_START;
-use geometry::PAGE_COUNTS;
 use geometry::Plan;
+use geometry::at_level;
+use geometry::level_place;
 use kinds::kinds_right;
 use laws::both;
+use slot::Pid;
 use slot::least_pair;
-use walk::directory_right;
-use walk::head_scan;
-use walk::page_scan;
-use walk::pages_below;
 use written::Verdict;
 use written::head_written;
 use written::level_written;
 
-// What the whole-store test finds: nothing, or the level that reply 6 tells.
+// What the whole-store test finds: nothing, or a fault.
 pub enum Whole {
     Sound,
-    Fault(u32),
+    Fault(Fault),
 }
 
 // The whole-store test: the first faulty level from the top, or l for kinds, alternation or live.
@@ -41,14 +45,14 @@ pub fn whole_fault(store: &[u32], g: Geometry, plan: Plan) -> Whole
     ensures { λ r. ⌜ wholeTold r ≡ fault g (now (store .entry)) ⌝ }
 {
     if !directory_right(store, g, plan) {
-        return Whole::Fault(0);
+        return Whole::Fault(Fault { level: 0 });
     }
     if !head_sound(store, g, plan) {
-        return Whole::Fault(0);
+        return Whole::Fault(Fault { level: 0 });
     }
     match levels_fault(store, g, plan) {
         Whole::Sound => across_fault(store, g, plan),
-        Whole::Fault(level) => Whole::Fault(level),
+        Whole::Fault(fault) => Whole::Fault(fault),
     }
 }
 
@@ -62,7 +66,7 @@ fn across_fault(store: &[u32], g: Geometry, plan: Plan) -> Whole
     if kinds_right(store, g, plan) {
         return Whole::Sound;
     }
-    Whole::Fault(g.levels)
+    Whole::Fault(Fault { level: g.levels })
 }
 
 // Whether the head is sound.
@@ -75,29 +79,22 @@ fn head_sound(store: &[u32], g: Geometry, plan: Plan) -> bool
     if !scan.formed {
         return false;
     }
-    let start = plan.starts[1] as usize;
-    let verdict = head_written(
-        store,
-        HEAD_START,
-        plan.head_room,
-        store[HEAD_COUNT],
-        start,
-        store[4],
-    );
+    let below = level_place(store, g, plan, 1);
+    let verdict = head_written(store, HEAD_START, plan.head_room, store[HEAD_COUNT], below);
     verdict.ok
 }
 
 // Whether every page of a level is formed.
-fn pages_formed(store: &[u32], g: Geometry, plan: Plan, level: usize) -> bool
+fn pages_formed(store: &[u32], g: Geometry, plan: Plan, level: u32) -> bool
     requires { ⌜ Lent g plan (now store) ⌝ }
     requires { ⌜ directoryRight g (now store) ≡ true ⌝ }
     requires { ⌜ (1 ≤ level) × (level < g .levels) ⌝ }
     ensures { λ r. ⌜ r ≡ all (pageFormed g (now (store .entry)) level) (span (λ p. p) 0 (pagesOf g (now (store .entry)) level)) ⌝ }
 {
-    let pages = store[PAGE_COUNTS + level];
+    let own = level_place(store, g, plan, level);
     let mut p: u32 = 0;
-    while p < pages {
-        let scan = page_scan(store, g, plan, least_pair(), level, p);
+    while p < own.pages {
+        let scan = page_scan(store, g, plan, least_pair(), level, Pid(p));
         if !scan.formed {
             return false;
         }
@@ -107,38 +104,26 @@ fn pages_formed(store: &[u32], g: Geometry, plan: Plan, level: usize) -> bool
 }
 
 // Whether a level is the writing of its entries, and how many they are.
-fn level_verdict(store: &[u32], g: Geometry, plan: Plan, level: usize) -> Verdict
+fn level_verdict(store: &[u32], g: Geometry, plan: Plan, level: u32) -> Verdict
     requires { ⌜ Lent g plan (now store) ⌝ }
     requires { ⌜ directoryRight g (now store) ≡ true ⌝ }
     requires { ⌜ (1 ≤ level) × (level < g .levels) ⌝ }
     ensures exact { λ r. ⌜ r .ok ≡ levelWritten (now (store .entry)) (levelStart g level) (room g level) (pagesOf g (now (store .entry)) level) (not (eqb level (bottom g))) (levelStart g (suc level)) (pagesOf g (now (store .entry)) (suc level)) ⌝ }
     ensures counted { λ r. ⌜ (r .ok ≡ true → r .entries ≡ length (entriesOf (levelRun (now (store .entry)) (levelStart g level) (pagesOf g (now (store .entry)) level)))) ⌝ }
 {
-    let start = plan.starts[level] as usize;
-    let room = plan.rooms[level];
-    let levels = g.levels as usize;
-    let below_start = start + 64 * room as usize;
-    let pages = store[PAGE_COUNTS + level];
-    let below = pages_below(store, g, level);
-    level_written(
-        store,
-        start,
-        room,
-        pages,
-        level != levels - 1,
-        below_start,
-        below,
-    )
+    let own = level_place(store, g, plan, level);
+    let below = level_place(store, g, plan, level + 1);
+    level_written(store, own, level != g.levels - 1, below)
 }
 
 // Whether a level may hold this many entries: fewer than its capacity above the bottom, at most M in the bottom.
-fn within_capacity(g: Geometry, plan: Plan, level: usize, entries: u32) -> bool
+fn within_capacity(g: Geometry, plan: Plan, level: u32, entries: u32) -> bool
     requires { ⌜ (level < g .levels) × (g .levels ≤ 4) ⌝ }
     ensures { λ r. ⌜ r ≡ capacityHolds (plan .capacities) g level entries ⌝ }
 {
-    let levels = g.levels as usize;
-    let capacity = plan.capacities[level];
-    if level == levels - 1 {
+    let capacities = plan.capacities;
+    let capacity = at_level(capacities, level);
+    if level == g.levels - 1 {
         entries <= capacity
     } else {
         entries < capacity
@@ -146,7 +131,7 @@ fn within_capacity(g: Geometry, plan: Plan, level: usize, entries: u32) -> bool
 }
 
 // Whether a level below the head is sound by itself.
-fn level_sound(store: &[u32], g: Geometry, plan: Plan, level: usize) -> bool
+fn level_sound(store: &[u32], g: Geometry, plan: Plan, level: u32) -> bool
     requires { ⌜ Lent g plan (now store) ⌝ }
     requires { ⌜ directoryRight g (now store) ≡ true ⌝ }
     requires { ⌜ (1 ≤ level) × (level < g .levels) ⌝ }
@@ -165,11 +150,10 @@ fn levels_fault(store: &[u32], g: Geometry, plan: Plan) -> Whole
     requires { ⌜ directoryRight g (now store) ≡ true ⌝ }
     ensures { λ r. ⌜ wholeTold r ≡ levelsFault g (now (store .entry)) 1 (bottom g) ⌝ }
 {
-    let levels = g.levels as usize;
     let mut level = 1;
-    while level < levels {
+    while level < g.levels {
         if !level_sound(store, g, plan, level) {
-            return Whole::Fault(level as u32);
+            return Whole::Fault(Fault { level });
         }
         level += 1;
     }

@@ -11,9 +11,10 @@ use Rattle.slot.specs.declared.Slot.{Slot}
 use Rattle.slot.specs.Tag.{pageOf}
 use Rattle.slot.specs.Slot.{slotAt}
 use Rattle.rules.specs.Level.{fenceKind}
-use Rattle.rules.specs.Sound.{pagesOf, slotsFrom, headSlots, pageSlots, levelSlots, entriesOf, treeOf}
+use Rattle.rules.specs.Sound.{slotsFrom, headSlots, pageSlots, levelSlots, entriesOf, treeOf}
+use Rattle.geometry.specs.Directory.{pagesOf}
 use Rattle.rules.specs.Good.{LevelFits, TreeFits, SlotFits, SlotsFit}
-use Rattle.written.specs.Stream.{entryOf}
+use Rattle.layout.specs.Stream.{entryOf}
 
 -- Every word is below 2³².
 abbrev pub WordsFit : List ℕ → Type 0

@@ -16,7 +16,8 @@ use Rattle.slot.specs.declared.Slot.{Slot}
 use Rattle.rules.specs.Tree.{Level}
 use Rattle.rules.specs.Level.{index, external, pagesFor, firstOf, fenceOf, fences, weave, paged, over}
 use Rattle.rules.specs.Store.{levelWords}
-use Rattle.rules.specs.Sound.{pagesOf, firstAt, levelLaid}
+use Rattle.rules.specs.Sound.{firstAt, levelLaid}
+use Rattle.geometry.specs.Directory.{pagesOf}
 use Rattle.rules.specs.Pages.{pages-inside}
 use Rattle.stored.specs.Reading.{first-stands}
 

@@ -12,14 +12,14 @@ use Rattle.laws.specs.Lists.{span, concat}
 use Rattle.laws.specs.Joined.{joined-length, joined-part, parts-joined}
 use Rattle.geometry.specs.declared.Geometry.{Geometry}
 use Rattle.geometry.specs.Geometry.{InRange, bottom, room}
-use Rattle.geometry.specs.Places.{erased, headStart, headRoom, levelStart, storeWords}
+use Rattle.geometry.specs.Places.{erased, headStart, headRoom, levelStart, storeWords, directoryWords, wordsInPage, wordsInSlot}
 use Rattle.geometry.specs.Bounds.{room-none}
 use Rattle.geometry.specs.Apart.{level-one, level-after}
 use Rattle.slot.specs.declared.Slot.{Slot}
 use Rattle.rules.specs.Level.{pagesFor}
 use Rattle.rules.specs.Store.{runWords, levelWords, pageCount, directory, laidOut}
-use Rattle.written.specs.Run.{wordsOfAll, words-length}
-use Rattle.written.specs.Pages.{levelPage, level-pages, level-page-length}
+use Rattle.layout.specs.Run.{wordsOfAll, words-length}
+use Rattle.layout.specs.Pages.{levelPage, level-pages, level-page-length}
 
 -- The words of a run of slots fill its room, where the slots do not pass it, and those of a level its room.
 pub run-words : (slots : List Slot) (n : ℕ) → length slots ≤ n → length (runWords slots n) ≡ 3 * n
@@ -52,16 +52,16 @@ store-end g fit =
     let e : 4 - g .levels + g .levels ≡ 4 = omega (arith, fit .levels-most) in
     sym (levels-end g (4 - g .levels)) ∙ ap (levelStart g) e
 
-head-end : (g : Geometry) → levelStart g 1 ≡ 9 + 3 * headRoom g
+head-end : (g : Geometry) → levelStart g 1 ≡ directoryWords + 3 * headRoom g
 unfolding headRoom
 head-end g = sym (level-one g)
 
 -- Words whose directory, head and levels are those of slots.
 pub record Parts (g : Geometry) (live : ℕ) (ss : List (List Slot)) (w : List ℕ) : Type 0 where
   pub whole : length w ≡ storeWords g
-  pub front : take 9 w ≡ directory g live ss
-  pub head : take (3 * headRoom g) (drop headStart w) ≡ runWords (getD ss 0 []) (headRoom g)
-  pub levels : (i : ℕ) → 1 ≤ i → i < g .levels → take (64 * room g i) (drop (levelStart g i) w) ≡ levelWords (getD ss i []) (room g i)
+  pub front : take directoryWords w ≡ directory g live ss
+  pub head : take (wordsInSlot * headRoom g) (drop headStart w) ≡ runWords (getD ss 0 []) (headRoom g)
+  pub levels : (i : ℕ) → 1 ≤ i → i < g .levels → take (wordsInPage * room g i) (drop (levelStart g i) w) ≡ levelWords (getD ss i []) (room g i)
 
 module _ (g : Geometry) (live : ℕ) (ss : List (List Slot)) (fit : InRange g) where
   -- The words of level i, and where the next level starts.
@@ -81,8 +81,8 @@ module _ (g : Geometry) (live : ℕ) (ss : List (List Slot)) (fit : InRange g) w
       let rest : drop (levelStart g 1) w ≡ concat (span ofLevel 1 (bottom g)) =
       parts-joined ofLevel (levelStart g) next-level w 1 (bottom g) (rw levels-counted (p .whole ∙ sym (store-end g fit)))
       (λ j l u. rw (level-words (getD ss j []) (room g j)) (p .levels j l (omega (arith, levels-counted)))) in
-      sym (take-append-drop 9 w) ∙
-      rw (p .front, ← take-append-drop (3 * headRoom g) (drop 9 w), p .head, drop-drop (3 * headRoom g) 9 w, ← head-end g, rest) refl
+      sym (take-append-drop directoryWords w) ∙
+      rw (p .front, ← take-append-drop (3 * headRoom g) (drop directoryWords w), p .head, drop-drop (3 * headRoom g) directoryWords w, ← head-end g, rest) refl
 
   -- And that store has them, where its head has room.
   module _ (head-fits : length (getD ss 0 []) ≤ headRoom g) where

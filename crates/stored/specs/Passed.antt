@@ -10,7 +10,7 @@ use Rattle.laws.specs.Tests.{and-left, and-right}
 use Rattle.geometry.specs.declared.Geometry.{Geometry}
 use Rattle.geometry.specs.Geometry.{InRange, bottom}
 use Rattle.geometry.specs.Places.{liveWord}
-use Rattle.rules.specs.Sound.{treeOf, directoryRight, headSound, levelSound, alternating, liveRight, Fault, sound, faultAt, levelsFault, acrossFault, else, fault}
+use Rattle.rules.specs.Sound.{treeOf, directoryRight, headSound, levelSound, alternating, liveRight, Judged, sound, faultAt, inLevel, levelsFault, acrossFault, else, fault}
 use Rattle.entries.specs.Ready.{levels-sound}
 
 pub record Passed (g : Geometry) (w : List ℕ) : Type 0 where
@@ -20,10 +20,10 @@ pub record Passed (g : Geometry) (w : List ℕ) : Type 0 where
   pub alternates : alternating (treeOf g w) ≡ true
   pub counted : liveRight (getD w liveWord 0) (treeOf g w) ≡ true
 
-both-none : (a b : Fault) → else a b ≡ sound → (a ≡ sound) × (b ≡ sound)
+both-none : (a b : Judged) → else a b ≡ sound → (a ≡ sound) × (b ≡ sound)
 unfolding else
 both-none sound b e = (refl, e)
-both-none (faultAt i) b e = let z : _≡_ {A = ℕ} 0 1 = cc in absurd (omega arith)
+both-none (faultAt f) b e = let z : _≡_ {A = ℕ} 0 1 = cc in absurd (omega arith)
 
 levels-pass : (g : Geometry) (w : List ℕ) (i n : ℕ) → ((j : ℕ) → i ≤ j → j < i + n → levelSound g w j ≡ true) → levelsFault g w i n ≡ sound
 unfolding levelsFault
@@ -35,7 +35,7 @@ module _ (g : Geometry) (w : List ℕ) (fit : InRange g) where
   unfolding acrossFault
   across e = chosen (alternating (treeOf g w) && liveRight (getD w liveWord 0) (treeOf g w)) e
     where
-      chosen : (b : Bool) → elim b [ true ↦ sound | false ↦ faultAt (g .levels) ] ≡ sound → b ≡ true
+      chosen : (b : Bool) → elim b [ true ↦ sound | false ↦ faultAt (inLevel (g .levels)) ] ≡ sound → b ≡ true
       chosen true e = refl
       chosen false e = let z : _≡_ {A = ℕ} 0 1 = cc in absurd (omega arith)
 
@@ -44,7 +44,7 @@ module _ (g : Geometry) (w : List ℕ) (fit : InRange g) where
   sound-passed e = chosen (directoryRight g w && headSound g w) refl e
     where
       chosen : (b : Bool) → (directoryRight g w && headSound g w) ≡ b →
-          elim b [ true ↦ else (levelsFault g w 1 (bottom g)) (acrossFault g w) | false ↦ faultAt 0 ] ≡ sound → Passed g w
+          elim b [ true ↦ else (levelsFault g w 1 (bottom g)) (acrossFault g w) | false ↦ faultAt (inLevel 0) ] ≡ sound → Passed g w
       chosen true q r =
           let none = both-none (levelsFault g w 1 (bottom g)) (acrossFault g w) r in
           let kinds = across (none .1) in

@@ -17,7 +17,8 @@ use Rattle.rules.specs.Tree.{level}
 use Rattle.rules.specs.Level.{pagesFor, fences, weave, slotsOf}
 use Rattle.rules.specs.Merging.{State}
 use Rattle.rules.specs.Store.{runWords, levelWords, directory}
-use Rattle.rules.specs.Sound.{pagesOf, headSlots, levelSlots, entriesOf, firstAt, treeOf, directoryRight, headRight, pageFormed, ascending, levelLaid, levelSound, headSound}
+use Rattle.rules.specs.Sound.{headSlots, levelSlots, entriesOf, firstAt, treeOf, directoryRight, headRight, pageFormed, ascending, levelLaid, levelSound, headSound}
+use Rattle.geometry.specs.Directory.{pagesOf}
 use Rattle.rules.specs.Good.{Good, Fits}
 use Rattle.rules.specs.Reading.{Reads}
 use Rattle.rules.specs.Laid.{slots-head, slots-upper, slots-bottom}

@@ -8,7 +8,7 @@ use lib.Seq.{getD-take, getD-drop}
 use Rattle.laws.specs.Lists.{getD-span}
 use Rattle.geometry.specs.declared.Geometry.{Geometry}
 use Rattle.geometry.specs.Geometry.{InRange, room}
-use Rattle.geometry.specs.Places.{pagesWord, headCountWord, headStart, headRoom, levelStart, pagePlace, slotPlace, storeWords}
+use Rattle.geometry.specs.Places.{pagesWord, headCountWord, headStart, headRoom, levelStart, pagePlace, slotPlace, storeWords, headWord, ratioWord, levelsWord, liveWord, modeWord, directoryWords}
 use Rattle.geometry.specs.Apart.{level-one, level-after, level-inside, first-slot}
 use Rattle.slot.specs.declared.Slot.{Slot}
 use Rattle.slot.specs.Pair.{least}
@@ -16,14 +16,14 @@ use Rattle.slot.specs.Slot.{slotAt}
 use Rattle.rules.specs.Pages.{pages-some, pages-reach}
 use Rattle.rules.specs.Level.{external, pagesFor, pageOf, firstOf}
 use Rattle.rules.specs.Store.{levelWords, pageCount, directory, laidOut}
-use Rattle.rules.specs.Sound.{geometryOf, pagesOf, slotsFrom, headSlots, countAt, pageSlots, levelSlots, firstAt}
+use Rattle.rules.specs.Sound.{slotsFrom, headSlots, countAt, pageSlots, levelSlots, firstAt}
+use Rattle.geometry.specs.Directory.{geometryOf, pagesOf, pages-of}
 use Rattle.rules.specs.Good.{Fits}
 use Rattle.rules.specs.Reading.{Reads}
-use Rattle.written.specs.Written.{countOf, pageRun}
-use Rattle.written.specs.Run.{run-slots}
-use Rattle.written.specs.Pages.{page-length, slots-length, count-read, page-read, level-read}
+use Rattle.layout.specs.Words.{countOf, pageRun}
+use Rattle.layout.specs.Run.{run-slots}
+use Rattle.layout.specs.Pages.{page-length, slots-length, count-read, page-read, level-read}
 use Rattle.written.specs.Parts.{level-own}
-use Rattle.entries.specs.Levels.{pages-there}
 use Rattle.stored.specs.Parts.{Parts, page-count, no-page-count, laid-parts}
 
 -- A level whose words are those of slots in its room.
@@ -70,21 +70,21 @@ directory-pages g live ss (suc (suc (suc (suc i)))) l u = absurd (omega arith)
 
 -- Words with the parts of slots are read as those slots.
 module _ (g : Geometry) (live : ℕ) (ss : List (List Slot)) (w : List ℕ) (fit : InRange g) (fits : Fits g ss) (p : Parts g live ss w) where
-  word : (j : ℕ) → j < 9 → getD w j 0 ≡ getD (directory g live ss) j 0
-  word j h = sym (getD-take 9 w j 0 h) ∙ ap (λ (l : List ℕ). getD l j 0) (p .front)
+  word : (j : ℕ) → j < directoryWords → getD w j 0 ≡ getD (directory g live ss) j 0
+  word j h = sym (getD-take directoryWords w j 0 h) ∙ ap (λ (l : List ℕ). getD l j 0) (p .front)
 
   geometry-read : geometryOf w ≡ g
   unfolding geometryOf directory
   geometry-read =
-      let a : getD w 0 0 ≡ g .head = word 0 (omega arith) in
-      let b : getD w 1 0 ≡ g .ratio = word 1 (omega arith) in
-      let c : getD w 2 0 ≡ g .levels = word 2 (omega arith) in
+      let a : getD w headWord 0 ≡ g .head = word headWord (omega arith) in
+      let b : getD w ratioWord 0 ≡ g .ratio = word ratioWord (omega arith) in
+      let c : getD w levelsWord 0 ≡ g .levels = word levelsWord (omega arith) in
       λ i. record { head = a i; ratio = b i; levels = c i }
 
   pages-read : (i : ℕ) → 1 ≤ i → i < g .levels → pagesOf g w i ≡ pagesFor (length (getD ss i []))
   pages-read i l u =
       let three : i ≤ 3 = omega (arith, fit .levels-most) in
-      pages-there g w i u ∙ word (pagesWord i) (omega arith) ∙ directory-pages g live ss i l three ∙ page-count g ss i u
+      pages-of g w i u ∙ word (pagesWord i) (omega arith) ∙ directory-pages g live ss i l three ∙ page-count g ss i u
 
   no-pages-read : (i : ℕ) → g .levels ≤ i → i ≤ 3 → getD w (pagesWord i) 0 ≡ 0
   no-pages-read i l u = word (pagesWord i) (omega arith) ∙ directory-pages g live ss i (omega (arith, fit .levels-least)) u ∙ no-page-count g ss i l
@@ -105,11 +105,11 @@ module _ (g : Geometry) (live : ℕ) (ss : List (List Slot)) (w : List ℕ) (fit
   parts-read = record {
     whole = p .whole;
     geometry = geometry-read;
-    live-pairs = word 3 (omega arith);
-    reserved = word 7 (omega arith);
+    live-pairs = word liveWord (omega arith);
+    reserved = word modeWord (omega arith);
     pages = pages-read;
     no-pages = no-pages-read;
-    head-count = word 8 (omega arith);
+    head-count = word headCountWord (omega arith);
     head-slots = head-read;
     counts = λ i q l u. count-stands g w i (getD ss i []) (p .whole) (exists i u) (fits .rooms i l u) (p .levels i l u) q;
     page-slots = λ i q l u. page-stands g w i (getD ss i []) (p .whole) (exists i u) (fits .rooms i l u) (p .levels i l u) q;

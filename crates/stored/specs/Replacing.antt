@@ -13,7 +13,7 @@ use borrow.Author.Tests.{ltb-true, ltb-false, eqb-true, eqb-false}
 use Rattle.laws.specs.Sets.{part-before, part-behind, part-stored}
 use Rattle.geometry.specs.declared.Geometry.{Geometry}
 use Rattle.geometry.specs.Geometry.{InRange, room}
-use Rattle.geometry.specs.Places.{liveWord, pagesWord, headCountWord, headStart, headRoom, levelStart}
+use Rattle.geometry.specs.Places.{liveWord, pagesWord, headCountWord, headStart, headRoom, levelStart, directoryWords}
 use Rattle.geometry.specs.Apart.{level-after, level-before, level-inside}
 use Rattle.slot.specs.declared.Slot.{Slot}
 use Rattle.rules.specs.Level.{pagesFor}
@@ -27,7 +27,7 @@ unfolding laidOut directory
 live-replaced g live ss n = refl
 
 -- The head's words end before every level's.
-pub head-before : (g : Geometry) (i : ℕ) → 9 + 3 * headRoom g ≤ levelStart g i
+pub head-before : (g : Geometry) (i : ℕ) → headStart + 3 * headRoom g ≤ levelStart g i
 unfolding levelStart
 head-before g i = omega arith
 
@@ -125,21 +125,21 @@ head-replaced-fits g ss slots fit fits few new = record {
 -- What stands after words are stored behind the directory, and one word in it: each part that they do not reach is as it was.
 record After (w : List ℕ) (at : ℕ) (vs : List ℕ) (word n : ℕ) (now : List ℕ) : Type 0 where
   whole : length now ≡ length w
-  front : take 9 now ≡ set (take 9 w) word n
-  before : (a k : ℕ) → 9 ≤ a → a + k ≤ at → take k (drop a now) ≡ take k (drop a w)
+  front : take directoryWords now ≡ set (take directoryWords w) word n
+  before : (a k : ℕ) → directoryWords ≤ a → a + k ≤ at → take k (drop a now) ≡ take k (drop a w)
   behind : (a k : ℕ) → at + length vs ≤ a → take k (drop a now) ≡ take k (drop a w)
   here : take (length vs) (drop at now) ≡ vs
 
-stored-after : (w : List ℕ) (at : ℕ) (vs : List ℕ) (word n : ℕ) → word < 9 → 9 ≤ at → at + length vs ≤ length w → After w at vs word n (set (sets w at vs) word n)
+stored-after : (w : List ℕ) (at : ℕ) (vs : List ℕ) (word n : ℕ) → word < directoryWords → directoryWords ≤ at → at + length vs ≤ length w → After w at vs word n (set (sets w at vs) word n)
 stored-after w at vs word n f b h = record {
   whole = length-set (sets w at vs) word n ∙ length-sets w at vs;
-  front = take-set-lt 9 (sets w at vs) word n f ∙ ap (λ (l : List ℕ). set l word n) (part-before w at vs 0 9 b);
+  front = take-set-lt directoryWords (sets w at vs) word n f ∙ ap (λ (l : List ℕ). set l word n) (part-before w at vs 0 directoryWords b);
   before = λ a k l u. past a k l ∙ part-before w at vs a k u;
   behind = λ a k l. past a k (omega arith) ∙ part-behind w at vs a k l;
   here = past at (length vs) b ∙ part-stored w at vs h;
 }
   where
-    past : (a k : ℕ) → 9 ≤ a → take k (drop a (set (sets w at vs) word n)) ≡ take k (drop a (sets w at vs))
+    past : (a k : ℕ) → directoryWords ≤ a → take k (drop a (set (sets w at vs) word n)) ≡ take k (drop a (sets w at vs))
     past a k l = part-behind (sets w at vs) word (n ∷ []) a k (omega arith)
 
 module _ (g : Geometry) (live : ℕ) (ss : List (List Slot)) (fit : InRange g) (fits : Fits g ss) where
@@ -153,7 +153,7 @@ module _ (g : Geometry) (live : ℕ) (ss : List (List Slot)) (fit : InRange g) (
     whole = stored .whole ∙ laid .whole;
     front = stored .front ∙ rw (laid .front) (directory-level g live ss i slots there l u (omega (arith, fit .levels-most)));
     head =
-        stored .before 9 (3 * headRoom g) (omega arith) (head-before g i) ∙ laid .head ∙
+        stored .before headStart (3 * headRoom g) (omega arith) (head-before g i) ∙ laid .head ∙
         ap (λ (s : List Slot). runWords s (headRoom g)) (sym (slots-other g ss i slots there 0 (λ e. omega (arith, e))));
     levels = λ j a b. chosen j a b (eqb j i) refl;
   })

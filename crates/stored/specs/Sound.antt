@@ -10,7 +10,8 @@ use Rattle.geometry.specs.Places.{liveWord, storeWords}
 use Rattle.rules.specs.Level.{slotsOf}
 use Rattle.rules.specs.Merging.{State}
 use Rattle.rules.specs.Store.{laidOut, writing}
-use Rattle.rules.specs.Sound.{geometryOf, pagesOf, treeOf, directoryRight, headRight, pageFormed, sound, fault}
+use Rattle.rules.specs.Sound.{treeOf, directoryRight, headRight, pageFormed, sound, fault}
+use Rattle.geometry.specs.Directory.{geometryOf, pagesOf}
 use Rattle.rules.specs.Good.{Good, Fits}
 use Rattle.stored.specs.Parts.{parts-laid, laid-parts}
 use Rattle.stored.specs.Back.{stateOf, tree-back}

@@ -15,17 +15,18 @@ use Rattle.laws.specs.Tests.{and-three, and-six}
 use Rattle.laws.specs.Flat.{equal-true}
 use Rattle.geometry.specs.declared.Geometry.{Geometry}
 use Rattle.geometry.specs.Geometry.{InRange, bottom, most, room}
-use Rattle.geometry.specs.Places.{liveWord, pagesWord, reservedWord, headCountWord, headStart, headRoom, levelStart, storeWords}
+use Rattle.geometry.specs.Places.{liveWord, pagesWord, modeWord, openMode, headCountWord, headStart, headRoom, levelStart, storeWords, headWord, ratioWord, levelsWord, directoryWords, wordsInPage, wordsInSlot}
 use Rattle.geometry.specs.Bounds.{capacity-zero}
 use Rattle.slot.specs.declared.Slot.{Slot}
 use Rattle.rules.specs.Tree.{Tree, level}
 use Rattle.rules.specs.Level.{index, pagesFor, fences, weave, slotsOf}
 use Rattle.rules.specs.Store.{runWords, levelWords, pageCount, directory}
-use Rattle.rules.specs.Sound.{geometryOf, pagesOf, headSlots, levelSlots, entriesOf, firstAt, treeOf, pagesRight, directoryRight, inOrder, headRight, pageFormed, ascending, levelLaid, withinCapacity, levelSound, headSound}
+use Rattle.rules.specs.Sound.{headSlots, levelSlots, entriesOf, firstAt, treeOf, pagesRight, directoryRight, inOrder, headRight, pageFormed, ascending, levelLaid, withinCapacity, levelSound, headSound}
+use Rattle.geometry.specs.Directory.{geometryOf, pagesOf, pages-of}
 use Rattle.rules.specs.Good.{Good}
 use Rattle.rules.specs.Laid.{slots-head, slots-upper, slots-bottom}
-use Rattle.written.specs.Inside.{pages-right, level-places}
-use Rattle.entries.specs.Levels.{pages-there}
+use Rattle.written.specs.Inside.{level-places}
+use Rattle.rules.specs.Directed.{live-most, mode-open, no-count}
 use Rattle.entries.specs.Ascending.{levelsAscend}
 use Rattle.entries.specs.Ready.{tree-ascends}
 use Rattle.stored.specs.Parts.{Parts, page-count, no-page-count}
@@ -54,7 +55,7 @@ module _ (g : Geometry) (w : List ℕ) (fit : InRange g) (whole : length w ≡ s
 
   record LevelTold (i : ℕ) : Type 0 where
     counted : pagesFor (length (own i)) ≡ pagesOf g w i
-    stands : take (64 * room g i) (drop (levelStart g i) w) ≡ levelWords (own i) (room g i)
+    stands : take (wordsInPage * room g i) (drop (levelStart g i) w) ≡ levelWords (own i) (room g i)
     within : withinCapacity g i (length (entriesOf (levelSlots g w i))) ≡ true
 
   level-told : (i : ℕ) → 1 ≤ i → i < g .levels → LevelTold i
@@ -97,7 +98,7 @@ module _ (g : Geometry) (w : List ℕ) (fit : InRange g) (whole : length w ≡ s
   record HeadTold : Type 0 where
     right : headRight g w ≡ true
     counted : length ownHead ≡ getD w headCountWord 0
-    stands : take (3 * headRoom g) (drop headStart w) ≡ runWords ownHead (headRoom g)
+    stands : take (wordsInSlot * headRoom g) (drop headStart w) ≡ runWords ownHead (headRoom g)
 
   head-told : HeadTold
   unfolding headSound ownHead
@@ -121,35 +122,24 @@ module _ (g : Geometry) (w : List ℕ) (fit : InRange g) (whole : length w ≡ s
       chosen : (b : Bool) → ltb i (g .levels) ≡ b → getD w (pagesWord i) 0 ≡ pageCount g (slotsOf tree) i
       chosen true e =
           let v : i < g .levels = ltb-true i (g .levels) e in
-          sym (pages-there g w i v) ∙ sym (level-told i l v .counted) ∙ ap (λ (s : List Slot). pagesFor (length s)) (own-level i l v) ∙
+          sym (pages-of g w i v) ∙ sym (level-told i l v .counted) ∙ ap (λ (s : List Slot). pagesFor (length s)) (own-level i l v) ∙
           sym (page-count g (slotsOf tree) i v)
       chosen false e =
-          let none : eqb (getD w (pagesWord i) 0) 0 ≡ true = rw (e, pagesRight) at (pages-right g w fit (passed .directory) whole i l u) in
-          eqb-true (getD w (pagesWord i) 0) 0 none ∙ sym (no-page-count g (slotsOf tree) i (ltb-false i (g .levels) e))
+          no-count g w (passed .directory) i l u (ltb-false i (g .levels) e) ∙ sym (no-page-count g (slotsOf tree) i (ltb-false i (g .levels) e))
 
-  record DirectoryTold : Type 0 where
-    few : getD w liveWord 0 ≤ most g
-    reserved : getD w reservedWord 0 ≡ 0
-
-  directory-told : DirectoryTold
-  unfolding directoryRight
-  directory-told =
-      let all = and-three (leb (getD w liveWord 0) (most g)) _ _ (passed .directory) in
-      record { few = leb-true _ _ (all .0); reserved = eqb-true _ _ (all .2) }
-
-  nine : 9 ≤ length w
+  nine : directoryWords ≤ length w
   unfolding storeWords levelStart
   nine = omega arith
 
-  front : geometryOf w ≡ g → take 9 w ≡ directory g (getD w liveWord 0) (slotsOf tree)
+  front : geometryOf w ≡ g → take directoryWords w ≡ directory g (getD w liveWord 0) (slotsOf tree)
   unfolding directory span geometryOf
   front e =
-      let a : getD w 0 0 ≡ g .head = ap (λ (x : Geometry). x .head) e in
-      let b : getD w 1 0 ≡ g .ratio = ap (λ (x : Geometry). x .ratio) e in
-      let c : getD w 2 0 ≡ g .levels = ap (λ (x : Geometry). x .levels) e in
-      let h : getD w 8 0 ≡ length (slots 0) = sym (head-told .counted) ∙ ap length own-head in
-      words-out w 9 nine ∙
-      rw (a, b, c, pages-told 1 (omega arith) (omega arith), pages-told 2 (omega arith) (omega arith), pages-told 3 (omega arith) (omega arith), directory-told .reserved, h)
+      let a : getD w headWord 0 ≡ g .head = ap (λ (x : Geometry). x .head) e in
+      let b : getD w ratioWord 0 ≡ g .ratio = ap (λ (x : Geometry). x .ratio) e in
+      let c : getD w levelsWord 0 ≡ g .levels = ap (λ (x : Geometry). x .levels) e in
+      let h : getD w headCountWord 0 ≡ length (slots 0) = sym (head-told .counted) ∙ ap length own-head in
+      words-out w directoryWords nine ∙
+      rw (a, b, c, pages-told 1 (omega arith) (omega arith), pages-told 2 (omega arith) (omega arith), pages-told 3 (omega arith) (omega arith), mode-open g w (passed .directory), h)
       refl
 
   pub parts : geometryOf w ≡ g → Parts g (getD w liveWord 0) (slotsOf tree) w
@@ -180,6 +170,6 @@ module _ (g : Geometry) (w : List ℕ) (fit : InRange g) (whole : length w ≡ s
     within = all-within;
     alternates = passed .alternates;
     counted = passed .counted;
-    few = directory-told .few;
+    few = live-most g w (passed .directory);
     fit = tree-fits g w words;
   }

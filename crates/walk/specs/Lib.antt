@@ -1,5 +1,4 @@
--- The walk of ask on any words: what a page and the head tell (Step), level by level (Walk).
-pub mod Passes
+-- The walk of ask on any words: what a page and the head tell (Step), after their tests (Read), level by level (Walk).
 pub mod Step
 pub mod Read
 pub mod Walk

@@ -13,7 +13,7 @@ use Rattle.laws.specs.Tests.{and-left, and-right, and-three, and-six}
 use Rattle.laws.specs.Lists.{span, passing, all, equal, passing-yes, passing-small}
 use Rattle.geometry.specs.declared.Geometry.{Geometry}
 use Rattle.geometry.specs.Geometry.{bottom}
-use Rattle.geometry.specs.Places.{headRoom, pagePlace}
+use Rattle.geometry.specs.Places.{headRoom, pagePlace, headCountWord, headStart}
 use Rattle.geometry.specs.Apart.{first-slot}
 use Rattle.slot.specs.declared.Pair.{Pair}
 use Rattle.slot.specs.declared.Slot.{Slot}
@@ -22,9 +22,10 @@ use Rattle.slot.specs.Slot.{slotAt}
 use Rattle.page.specs.Told.{length-run}
 use Rattle.rules.specs.Level.{fenceKind}
 use Rattle.rules.specs.Finding.{tell}
-use Rattle.rules.specs.Sound.{pagesOf, slotsFrom, headSlots, countAt, pageSlots, entriesOf, inOrder, legal, fencePages, firstIsLeast, headRight, countRight, pageFormed, firstRight, pageRight}
+use Rattle.rules.specs.Sound.{slotsFrom, headSlots, countAt, pageSlots, entriesOf, inOrder, legal, fencePages, firstIsLeast, headRight, countRight, pageFormed, firstRight, pageRight}
+use Rattle.geometry.specs.Directory.{pagesOf, pages-none}
 use Rattle.walk.specs.declared.Step.the-variants.{Broken}
-use Rattle.walk.specs.Passes.{fenceUpTo, leastFence, pageScanned, headScanned, first-slots, headCount, head-reach, page-reach}
+use Rattle.form.specs.Passes.{fenceUpTo, leastFence, pageScanned, headScanned, first-slots, headCount, head-reach, page-reach}
 use Rattle.walk.specs.Step.{headStep, pageStep, StepWithin, aboveStep, bottomStep, above-tells, above-within, bottom-tells}
 
 -- Where the first slot is at most the pair, a pass reaches it.
@@ -43,11 +44,7 @@ first-of w place (suc n) asked h =
     let here : place + 3 * 0 ≡ place = omega arith in
     rw here
 
--- A level that does not exist has no pages; above the bottom a page that is right has a slot.
-pages-none : (g : Geometry) (w : List ℕ) (i : ℕ) → g .levels ≤ i → pagesOf g w i ≡ 0
-unfolding pagesOf
-pages-none g w i h = rw (le-ltb i (g .levels) h, pagesOf)
-
+-- Above the bottom a page that is right has a slot.
 counted : (g : Geometry) (w : List ℕ) (i p : ℕ) → suc i < g .levels → countRight g w i p ≡ true → 1 ≤ min (countAt g w i p) 21
 unfolding countRight
 counted g w i p h e = some (leb 1 (countAt g w i p)) refl (and-right (leb (countAt g w i p) 21) _ e)
@@ -61,51 +58,51 @@ counted g w i p h e = some (leb 1 (countAt g w i p)) refl (and-right (leb (count
 -- The head.
 module _ (g : Geometry) (w : List ℕ) (asked : Pair) where
   abbrev headRun : List Slot
-  headRun = slotsFrom w 9 (headCount g w)
+  headRun = slotsFrom w headStart (headCount g w)
 
   pub head-broken : headRight g w ≡ false → Broken ≡ headStep g w asked
   unfolding headStep
   head-broken e = rw e
 
   module _ (right : headRight g w ≡ true) where
-    pub head-tests : (leb (getD w 8 0) (headRoom g) ≡ true) × (ltb (length (entriesOf headRun)) (g .head) ≡ true) × (inOrder headRun ≡ true) ×
+    pub head-tests : (leb (getD w headCountWord 0) (headRoom g) ≡ true) × (ltb (length (entriesOf headRun)) (g .head) ≡ true) × (inOrder headRun ≡ true) ×
         (all (legal false (pagesOf g w 1)) headRun ≡ true) × (equal (fencePages headRun) (span (λ p. p) 0 (pagesOf g w 1)) ≡ true) ×
         (firstIsLeast headRun ≡ true)
     unfolding headRight headSlots
     head-tests =
-        and-six (leb (getD w 8 0) (headRoom g)) (ltb (length (entriesOf headRun)) (g .head)) (inOrder headRun) (all (legal false (pagesOf g w 1)) headRun)
+        and-six (leb (getD w headCountWord 0) (headRoom g)) (ltb (length (entriesOf headRun)) (g .head)) (inOrder headRun) (all (legal false (pagesOf g w 1)) headRun)
         (equal (fencePages headRun) (span (λ p. p) 0 (pagesOf g w 1))) (firstIsLeast headRun) right
 
     -- Its first slot is the least fence.
-    first-test : (leb 1 (headCount g w) && leastFence (slotAt w 9)) ≡ true
+    first-test : (leb 1 (headCount g w) && leastFence (slotAt w headStart)) ≡ true
     first-test = sym (first-slots w (headCount g w)) ∙ head-tests .5
 
-    pub head-first : fenceKind ((slotAt w 9) .kind) ≡ true
+    pub head-first : fenceKind ((slotAt w headStart) .kind) ≡ true
     unfolding leastFence
-    head-first = and-left (fenceKind ((slotAt w 9) .kind)) (same least ((slotAt w 9) .pair)) (and-right (leb 1 (headCount g w)) (leastFence (slotAt w 9)) first-test)
+    head-first = and-left (fenceKind ((slotAt w headStart) .kind)) (same least ((slotAt w headStart) .pair)) (and-right (leb 1 (headCount g w)) (leastFence (slotAt w headStart)) first-test)
 
     pub head-some : 1 ≤ (headScanned g w asked) .reach
     unfolding leastFence headSlots
     head-some =
-        let f = and-right (fenceKind ((slotAt w 9) .kind)) (same least ((slotAt w 9) .pair)) (and-right (leb 1 (headCount g w)) (leastFence (slotAt w 9)) first-test) in
+        let f = and-right (fenceKind ((slotAt w headStart) .kind)) (same least ((slotAt w headStart) .pair)) (and-right (leb 1 (headCount g w)) (leastFence (slotAt w headStart)) first-test) in
         rw (head-reach g w asked)
-        (reach-some w 9 (headCount g w) asked (leb-true 1 (headCount g w) (and-left (leb 1 (headCount g w)) (leastFence (slotAt w 9)) first-test)) (none-before-least asked ((slotAt w 9) .pair) f))
+        (reach-some w headStart (headCount g w) asked (leb-true 1 (headCount g w) (and-left (leb 1 (headCount g w)) (leastFence (slotAt w headStart)) first-test)) (none-before-least asked ((slotAt w headStart) .pair) f))
 
     pub head-reach-small : (headScanned g w asked) .reach ≤ headRoom g
     unfolding headSlots
     head-reach-small =
-        rw (head-reach g w asked) (le-trans (passing-small (λ (s : Slot). not (before asked (s .pair))) headRun) (rw (length-run w 9 (headCount g w)) (min-le-right (getD w 8 0) (headRoom g))))
+        rw (head-reach g w asked) (le-trans (passing-small (λ (s : Slot). not (before asked (s .pair))) headRun) (rw (length-run w headStart (headCount g w)) (min-le-right (getD w headCountWord 0) (headRoom g))))
 
-    pub head-tells : aboveStep w 9 ((headScanned g w asked) .reach - 1) asked ≡ headStep g w asked
+    pub head-tells : aboveStep w headStart ((headScanned g w asked) .reach - 1) asked ≡ headStep g w asked
     unfolding headStep headSlots
     head-tells =
         rw right
-        (above-tells w 9 (headCount g w) asked false (pagesOf g w 1) ((headScanned g w asked) .reach) (head-tests .2) (head-tests .3) (head-reach g w asked) head-first head-some)
+        (above-tells w headStart (headCount g w) asked false (pagesOf g w 1) ((headScanned g w asked) .reach) (head-tests .2) (head-tests .3) (head-reach g w asked) head-first head-some)
 
-    pub head-within : StepWithin (pagesOf g w 1) (aboveStep w 9 ((headScanned g w asked) .reach - 1) asked)
+    pub head-within : StepWithin (pagesOf g w 1) (aboveStep w headStart ((headScanned g w asked) .reach - 1) asked)
     unfolding headSlots
     head-within =
-        above-within w 9 (headCount g w) asked false (pagesOf g w 1) ((headScanned g w asked) .reach) (head-tests .2) (head-tests .3) (head-reach g w asked) head-first head-some
+        above-within w headStart (headCount g w) asked false (pagesOf g w 1) ((headScanned g w asked) .reach) (head-tests .2) (head-tests .3) (head-reach g w asked) head-first head-some
 
 -- A page of a lower level.
 module _ (g : Geometry) (w : List ℕ) (asked : Pair) (i p : ℕ) where

@@ -11,6 +11,7 @@ use lib.Dec.{eqb}
 use borrow.Author.Tests.{eqb-true, eqb-false}
 use Rattle.laws.specs.Lists.{passing, all, passing-small}
 use Rattle.geometry.specs.declared.Geometry.{Geometry}
+use Rattle.geometry.specs.Places.{wordsInSlot}
 use Rattle.slot.specs.declared.Pair.{Pair}
 use Rattle.slot.specs.declared.Pid.{Pid}
 use Rattle.slot.specs.Pair.{before}
@@ -53,10 +54,10 @@ metBottom (Entry normal) = Decided normal
 metBottom Absent = Nothing
 
 unfoldable pub aboveStep : List ℕ → ℕ → ℕ → Pair → Step
-aboveStep w place last asked = metAbove (metIn (slotAt w (place + 3 * last)) asked) (fenceBack w place last)
+aboveStep w place last asked = metAbove (metIn (slotAt w (place + wordsInSlot * last)) asked) (fenceBack w place last)
 
 unfoldable pub bottomStep : List ℕ → ℕ → ℕ → Pair → Step
-bottomStep w place reach asked = cond (eqb reach 0) Nothing (metBottom (metIn (slotAt w (place + 3 * (reach - 1))) asked))
+bottomStep w place reach asked = cond (eqb reach 0) Nothing (metBottom (metIn (slotAt w (place + wordsInSlot * (reach - 1))) asked))
 
 -- A run of slots at a place, in order and with legal tags: what is told of it, from the slot that a pass reached.
 module _ (w : List ℕ) (place n : ℕ) (asked : Pair) (inner : Bool) (below r : ℕ) (order : inOrder (slotsFrom w place n) ≡ true)

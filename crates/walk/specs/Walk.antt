@@ -11,10 +11,11 @@ use Rattle.laws.specs.Tests.{and-left, and-right, and-three}
 use Rattle.laws.specs.Lists.{all, all-three}
 use Rattle.geometry.specs.declared.Geometry.{Geometry}
 use Rattle.geometry.specs.Geometry.{bottom, most, room}
-use Rattle.geometry.specs.Places.{liveWord, pagesWord, reservedWord}
+use Rattle.geometry.specs.Places.{liveWord, pagesWord, modeWord, openMode}
 use Rattle.slot.specs.declared.Pair.{Pair}
 use Rattle.slot.specs.declared.Pid.{Pid}
-use Rattle.rules.specs.Sound.{pagesOf, pagesRight, directoryRight, headRight}
+use Rattle.rules.specs.Sound.{pagesRight, directoryRight, headRight, inLevel}
+use Rattle.geometry.specs.Directory.{pagesOf}
 use Rattle.walk.specs.declared.Step.{Step}
 use Rattle.walk.specs.declared.Step.the-variants.{Decided, Follow, Nothing, Broken}
 use Rattle.walk.specs.declared.Walked.{Walked}
@@ -26,15 +27,15 @@ unfoldable pub walkOn : Geometry → List ℕ → Pair → ℕ → ℕ → Step 
 walkOn g w asked zero i (Decided held) = Found held i
 walkOn g w asked zero i (Follow page) = Found false (g .levels)
 walkOn g w asked zero i Nothing = Found false (g .levels)
-walkOn g w asked zero i Broken = Fault i
+walkOn g w asked zero i Broken = Fault (inLevel i)
 walkOn g w asked (suc n) i (Decided held) = Found held i
 walkOn g w asked (suc n) i (Follow page) = walkOn g w asked n (suc i) (pageStep g w asked (suc i) (page .0))
 walkOn g w asked (suc n) i Nothing = Found false (g .levels)
-walkOn g w asked (suc n) i Broken = Fault i
+walkOn g w asked (suc n) i Broken = Fault (inLevel i)
 
 -- The directory and the head are level 0.
 unfoldable pub walked : Geometry → List ℕ → Pair → Walked
-walked g w asked = cond (directoryRight g w) (walkOn g w asked (bottom g) 0 (headStep g w asked)) (Fault 0)
+walked g w asked = cond (directoryRight g w) (walkOn g w asked (bottom g) 0 (headStep g w asked)) (Fault (inLevel 0))
 
 -- The walk from a page of level i on.
 unfoldable pub walkFrom : Geometry → List ℕ → Pair → ℕ → ℕ → Walked
@@ -52,7 +53,7 @@ module _ (g : Geometry) (w : List ℕ) (asked : Pair) where
   walk-nothing zero i = refl
   walk-nothing (suc n) i = refl
 
-  pub walk-broken : (n i : ℕ) → walkOn g w asked n i Broken ≡ Fault i
+  pub walk-broken : (n i : ℕ) → walkOn g w asked n i Broken ≡ Fault (inLevel i)
   unfolding walkOn
   walk-broken zero i = refl
   walk-broken (suc n) i = refl
@@ -77,35 +78,9 @@ module _ (g : Geometry) (w : List ℕ) (asked : Pair) where
       let n : g .levels - i ≡ 0 = omega arith in
       rw n
 
--- The directory keeps page counts within their rooms.
-room-kept : (g : Geometry) (w : List ℕ) (i : ℕ) → i < g .levels → pagesRight g w i ≡ true → pagesOf g w i ≤ room g i
-unfolding pagesRight pagesOf
-room-kept g w i h e =
-    rw (lt-ltb i (g .levels) h, pagesOf)
-    (leb-true (getD w (pagesWord i) 0) (room g i) (and-right (leb 1 (getD w (pagesWord i) 0)) (leb (getD w (pagesWord i) 0) (room g i)) (rw (lt-ltb i (g .levels) h, pagesRight) at e)))
-
-pub pages-in-room : (g : Geometry) (w : List ℕ) (i : ℕ) → g .levels ≤ 4 → directoryRight g w ≡ true → 1 ≤ i → i < g .levels → pagesOf g w i ≤ room g i
-unfolding directoryRight
-pages-in-room g w i four right k h = at-level i (omega arith) k h
-  where
-    tests : (pagesRight g w 1 && (pagesRight g w 2 && pagesRight g w 3)) ≡ true
-    tests =
-        rw (all-three (pagesRight g w) 1 2 3) at
-        (and-three (leb (getD w liveWord 0) (most g)) (all (pagesRight g w) (1 ∷ 2 ∷ 3 ∷ [])) (eqb (getD w reservedWord 0) 0) right .1)
-
-    later : (pagesRight g w 2 && pagesRight g w 3) ≡ true
-    later = and-right (pagesRight g w 1) (pagesRight g w 2 && pagesRight g w 3) tests
-
-    at-level : (i : ℕ) → i ≤ 3 → 1 ≤ i → i < g .levels → pagesOf g w i ≤ room g i
-    at-level zero m k h = absurd (omega arith)
-    at-level (suc zero) m k h = room-kept g w 1 h (and-left (pagesRight g w 1) (pagesRight g w 2 && pagesRight g w 3) tests)
-    at-level (suc (suc zero)) m k h = room-kept g w 2 h (and-left (pagesRight g w 2) (pagesRight g w 3) later)
-    at-level (suc (suc (suc zero))) m k h = room-kept g w 3 h (and-right (pagesRight g w 2) (pagesRight g w 3) later)
-    at-level (suc (suc (suc (suc i)))) m k h = absurd (omega arith)
-
 -- A walk that finds an answer has passed the tests of the directory and of the head.
 module _ (g : Geometry) (w : List ℕ) (asked : Pair) (held : Bool) (level : ℕ) (found : walked g w asked ≡ Found held level) where
-  not-faulty : (i : ℕ) → _≡_ {A = Walked} (Fault i) (Found held level) → ⊥
+  not-faulty : (i : ℕ) → _≡_ {A = Walked} (Fault (inLevel i)) (Found held level) → ⊥
   not-faulty i e = let z : _≡_ {A = ℕ} 0 1 = cc in omega arith
 
   pub found-directory : directoryRight g w ≡ true

@@ -11,17 +11,17 @@ use lib.Dec.{ltb}
 use borrow.Author.Tests.{ltb-true, ltb-false}
 use Rattle.laws.specs.Lists.{span, concat}
 use Rattle.laws.specs.Flat.{concat-append, span-append, span-agree}
-use Rattle.geometry.specs.Places.{erased}
+use Rattle.geometry.specs.Places.{erased, wordsInPage, wordsInSlot, slotsInPage}
 use Rattle.slot.specs.declared.Slot.{Slot}
 use Rattle.slot.specs.Slot.{wordsOf}
 use Rattle.rules.specs.Level.{pagesFor, pageOf}
 use Rattle.rules.specs.Store.{runWords, pageWords, levelWords}
-use Rattle.written.specs.Run.{wordsOfAll, words-three, words-length}
-use Rattle.written.specs.Pages.{levelPage, level-pages, page-used, page-unused, level-page-length}
+use Rattle.layout.specs.Run.{wordsOfAll, words-three, words-length}
+use Rattle.layout.specs.Pages.{levelPage, level-pages, page-used, page-unused, level-page-length}
 
 -- Words with a slot put at position n of the row that begins with them: its three words, and its page's count.
 unfoldable pub slotPut : List ℕ → ℕ → Slot → List ℕ
-slotPut w n s = set (sets w (64 * (n / 21) + 1 + 3 * (n % 21)) (wordsOf s)) (64 * (n / 21)) (n % 21 + 1)
+slotPut w n s = set (sets w (wordsInPage * (n / slotsInPage) + 1 + wordsInSlot * (n % slotsInPage)) (wordsOf s)) (wordsInPage * (n / slotsInPage)) (n % slotsInPage + 1)
 
 -- Stores in one part of joined lists -----------------------------------------------------------------------------------------------------------
 

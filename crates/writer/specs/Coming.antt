@@ -17,8 +17,8 @@ use Rattle.rules.specs.Merging.{join}
 use Rattle.rules.specs.Store.{levelWords}
 use Rattle.entries.specs.Run.{entriesIn}
 use Rattle.written.specs.Decided.{laid-whole}
-use Rattle.written.specs.Stream.{cut, fencedAt, entryNext, fencesFrom, laidFrom, wanted, left, ended}
-use Rattle.written.specs.Stream.{laid-next, laid-ended, fence-passed, entry-passed, internal-passed}
+use Rattle.layout.specs.Stream.{cut, fencedAt, entryNext, fencesFrom, laidFrom, wanted, left, ended}
+use Rattle.layout.specs.Stream.{laid-next, laid-ended, fence-passed, entry-passed, internal-passed}
 use Rattle.good.specs.Pages.{weave-length}
 use Rattle.writer.specs.declared.Source.{Source}
 use Rattle.writer.specs.Source.{firstBelow, levelFrom}
@@ -133,7 +133,7 @@ laid-least false first below n p es =
 -- What the area becomes -----------------------------------------------------------------------------------------------------------------------
 
 module _ (w : List ℕ) (source : Source) where
-  -- The area, and the number of slots in it, when these entries have come behind so many own slots and so many fences.
+  -- The area, and the number of slots in it, when these entries have come after `own` own slots and `fence` fences.
   unfoldable pub finished : List ℕ → ℕ → ℕ → Level → List ℕ × ℕ
   finished work own fence es =
       slotsPut work (own + fence) (laidFrom (source .fenced) (firstBelow w source) (source .below) (own + fence) fence es)

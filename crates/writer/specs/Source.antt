@@ -12,14 +12,15 @@ use Rattle.rules.specs.Merging.{join}
 use Rattle.rules.specs.Sound.{entriesOf, ascending}
 use Rattle.entries.specs.declared.Run.{Run}
 use Rattle.entries.specs.Run.{Inside, entriesIn}
-use Rattle.written.specs.Written.{firstPair, laidOver}
+use Rattle.layout.specs.Words.{firstPair, laidOver}
 use Rattle.writer.specs.declared.Source.{Source}
+use Rattle.geometry.specs.Places.{wordsInPage}
 
 -- The two runs and the pages below lie inside the words, and a fence's tag has room for its page number.
 pub record SourceInside (w : List ℕ) (source : Source) : Type 0 where
   pub upper-inside : Inside (source .upper) (length w)
   pub lower-inside : Inside (source .lower) (length w)
-  pub below-inside : source .«below_start» + 64 * source .below ≤ length w
+  pub below-inside : source .«below_start» + wordsInPage * source .below ≤ length w
   pub below-few : source .below ≤ 2 ^ 30
 
 -- The entries of both runs ascend.

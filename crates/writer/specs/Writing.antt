@@ -7,10 +7,10 @@ use mathlib.Core.Bool.{Bool, true}
 use mathlib.Core.List.{List, [], _∷_}
 use lib.ListN.{length, set, replicate}
 use lib.Seq.{sets}
-use Rattle.geometry.specs.Places.{erased}
+use Rattle.geometry.specs.Places.{erased, wordsInPage, slotsInPage}
 use Rattle.rules.specs.Tree.{Entry}
 use Rattle.rules.specs.Store.{levelWords}
-use Rattle.written.specs.Stream.{fencedAt, entryNext}
+use Rattle.layout.specs.Stream.{fencedAt, entryNext}
 use Rattle.writer.specs.declared.Source.{Source}
 use Rattle.writer.specs.declared.Turn.{Turn}
 use Rattle.writer.specs.declared.Turn.the-variants.{Both, Neither}
@@ -22,20 +22,20 @@ use Rattle.writer.specs.Coming.{entrySlots, fenced-first, finished, Same
 
 -- The pages that an area has room for.
 abbrev pub roomIn : List ℕ → ℕ
-roomIn work = length work / 64
+roomIn work = length work / wordsInPage
 
 -- An area of whole pages, one at least.
 pub record WholePages (work : List ℕ) : Type 0 where
-  pub whole : length work ≡ 64 * roomIn work
+  pub whole : length work ≡ wordsInPage * roomIn work
   pub some : 1 ≤ roomIn work
   pub few : roomIn work ≤ 4096
 
--- Room for so many slots.
+-- Room for n slots.
 pub record RoomFor (n : ℕ) (work : List ℕ) : Type 0 where
-  pub enough : n ≤ 21 * roomIn work
+  pub enough : n ≤ slotsInPage * roomIn work
   pub few : roomIn work ≤ 4096
 
--- Where there is room for so many, there is for fewer; and where an internal fence has room, so has the entry behind it.
+-- Where there is room for n slots, there is for fewer; and where an internal fence has room, so has the entry behind it.
 pub room-less : (m n : ℕ) (work area : List ℕ) → RoomFor n work → m ≤ n → length area ≡ length work → RoomFor m area
 room-less m n work area room h kept = record { enough = omega (arith, room .enough, kept); few = omega (arith, room .few, kept) }
 
@@ -58,12 +58,12 @@ module _ (w : List ℕ) (source : Source) (room : ℕ) where
   abbrev wholeLevel : List ℕ × ℕ
   wholeLevel = (levelWords (levelFrom w source) room, length (levelFrom w source))
 
-  -- At two spots, behind so many own slots and so many fences: what is still to come makes the area the whole level.
+  -- At two spots, after `own` own slots and `fence` fences: what is still to come makes the area the whole level.
   pub record Going (work : List ℕ) (upper lower own fence : ℕ) : Type 0 where
     pub finishes : finished w source work own fence (joined w source upper lower) ≡ wholeLevel
     pub ready : Ready w source upper lower
     pub fence-most : fence ≤ source .below
-    pub whole : length work ≡ 64 * room
+    pub whole : length work ≡ wordsInPage * room
 
   pub going-begins : (work : List ℕ) (upper lower : ℕ) → work ≡ levelWords [] room → length (levelFrom w source) ≤ 21 * room →
       SourceAscends w source → Reached w (source .upper) 0 upper → Reached w (source .lower) 0 lower → Going work upper lower 0 0

@@ -11,24 +11,26 @@ ghost use Rattle.entries.specs.Run.{Inside, entry as indexed};
 ghost use Rattle.entries.specs.Spot.{pageAt, Standing};
 ghost use Rattle.rules.specs.Level.{pagesFor};
 ghost use Rattle.rules.specs.Store.{levelWords};
-ghost use Rattle.written.specs.Stream.{entryNext};
+ghost use Rattle.layout.specs.Stream.{entryNext};
 ghost use Rattle.writer.specs.Source.{SourceInside, SourceAscends, firstBelow, levelFrom, emptyRun};
 ghost use Rattle.writer.specs.Joining.{turnOfTwo, turnAt, Ready, Reached, Passed};
 ghost use Rattle.writer.specs.Append.{slotPut, slotsPut};
 ghost use Rattle.writer.specs.Coming.{entrySlots, finished, SameFinish};
 ghost use Rattle.writer.specs.Writing.{roomIn, WholePages, RoomFor};
+ghost use Rattle.geometry.specs.Places.{slotsInPage};
 use entries::Entry;
 use entries::Run;
 use geometry::FIRST_SLOT;
 use geometry::PAGE_SLOTS;
 use geometry::PAGE_WORDS;
 use geometry::SLOT_WORDS;
+use layout::entry_next;
+use layout::fence_of;
+use layout::fenced_at;
+use layout::inner_fence;
 use slot::Pair;
+use slot::Pid;
 use slot::Slot;
-use written::entry_next;
-use written::fence_of;
-use written::fenced_at;
-use written::inner_fence;
 
 // What a level is written from: the two levels that are joined, the first word and the number of pages of the level below, and whether
 // internal fences go in. The bottom has no pages below and no fences.
@@ -53,7 +55,7 @@ pub fn write_level(store: &[u32], work: &mut [u32], source: Source) -> u32
     requires { ⌜ SourceInside (now store) source ⌝ }
     requires { ⌜ SourceAscends (now store) source ⌝ }
     requires { ⌜ WholePages (now work) ⌝ }
-    requires { ⌜ length (levelFrom (now store) source) ≤ 21 * roomIn (now work) ⌝ }
+    requires { ⌜ length (levelFrom (now store) source) ≤ slotsInPage * roomIn (now work) ⌝ }
     ensures area { λ _. ⌜ now (work .exit) ≡ levelWords (levelFrom (now (store .entry)) source) (roomIn (now (work .entry))) ⌝ }
     ensures count { λ r. ⌜ r ≡ length (levelFrom (now (store .entry)) source) ⌝ }
 {
@@ -67,7 +69,7 @@ fn write_slots(store: &[u32], work: &mut [u32], source: Source) -> u32
     requires { ⌜ SourceAscends (now store) source ⌝ }
     requires { ⌜ now work ≡ levelWords [] (roomIn (now work)) ⌝ }
     requires { ⌜ roomIn (now work) ≤ 4096 ⌝ }
-    requires { ⌜ length (levelFrom (now store) source) ≤ 21 * roomIn (now work) ⌝ }
+    requires { ⌜ length (levelFrom (now store) source) ≤ slotsInPage * roomIn (now work) ⌝ }
     ensures area { λ _. ⌜ now (work .exit) ≡ levelWords (levelFrom (now (store .entry)) source) (roomIn (now (work .entry))) ⌝ }
     ensures count { λ r. ⌜ r ≡ length (levelFrom (now (store .entry)) source) ⌝ }
 {
@@ -102,15 +104,15 @@ fn write_slots(store: &[u32], work: &mut [u32], source: Source) -> u32
     }
 }
 
-// The number of pages of so many slots.
+// The number of pages that `slots` slots take.
 pub fn pages_for(slots: u32) -> u32
-    requires { ⌜ slots + 20 < 2 ^ 32 ⌝ }
+    requires { ⌜ slots + slotsInPage < 2 ^ 32 ⌝ }
     ensures { λ r. ⌜ r ≡ pagesFor slots ⌝ }
 {
     if slots == 0 {
         return 1;
     }
-    (slots + 20) / 21
+    (slots + PAGE_SLOTS - 1) / PAGE_SLOTS
 }
 
 // A run that has no entries.
@@ -164,8 +166,8 @@ fn put_fences_before(
 {
     let start = source.below_start as usize;
     let mut next = fence;
-    while !entry_next(store, start, source.below, next, pair) {
-        put_slot(work, own + next, fence_of(store, start, next));
+    while !entry_next(store, start, source.below, Pid(next), pair) {
+        put_slot(work, own + next, fence_of(store, start, Pid(next)));
         next += 1;
     }
     next
@@ -181,7 +183,7 @@ fn put_fences(store: &[u32], work: &mut [u32], source: Source, own: u32, fence: 
     let start = source.below_start as usize;
     let mut next = fence;
     while next < source.below {
-        put_slot(work, own + next, fence_of(store, start, next));
+        put_slot(work, own + next, fence_of(store, start, Pid(next)));
         next += 1;
     }
     own + next
@@ -197,7 +199,7 @@ fn put_entry(work: &mut [u32], source: Source, own: u32, fence: u32, entry: Entr
     let pair = entry.pair;
     let slot = entries::index_of(entry);
     if fenced_at(source.fenced, (own + fence) as usize) {
-        let behind = put_own(work, own, fence, inner_fence(pair, fence));
+        let behind = put_own(work, own, fence, inner_fence(pair, Pid(fence)));
         return put_own(work, behind, fence, slot);
     }
     put_own(work, own, fence, slot)

@@ -13,7 +13,7 @@ use Rattle.slot.specs.declared.Slot.{Slot}
 use Rattle.rules.specs.Level.{index, fenceKind}
 use Rattle.rules.specs.Sound.{entriesOf}
 use Rattle.written.specs.declared.Row.{Row}
-use Rattle.written.specs.Stream.{sameSlot, entryOf, isIndex, slots-apart, index-entry, fence-no-index, entry-kind, entryNext, fencedAt, areStream}
+use Rattle.layout.specs.Stream.{sameSlot, entryOf, isIndex, slots-apart, index-entry, fence-no-index, entry-kind, entryNext, fencedAt, areStream}
 use Rattle.written.specs.Row.{Unfenced, rowSlot, rises, rising, nothingLeft, slotsOn, rowSlots, nextEntry, wantedAt, isWanted, entryFits, goesOn, rowWritten}
 use Rattle.written.specs.Position.{entries-entry, slots-on-first, slots-on-none, wanted-index, goes-fence, goes-entry, here-starts}
 

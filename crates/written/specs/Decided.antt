@@ -20,10 +20,11 @@ use Rattle.rules.specs.Level.{pagesFor, fences}
 use Rattle.rules.specs.Store.{runWords, levelWords}
 use Rattle.rules.specs.Sound.{slotsFrom, entriesOf, ascending}
 use Rattle.written.specs.declared.Row.{Row}
-use Rattle.written.specs.Written.{firstPair, laidOver, levelRun, levelWritten, headWritten, LevelInside, HeadInside}
-use Rattle.written.specs.Stream.{cut, fencesFrom, laidFrom, areStream, stream-laid, laid-stream}
-use Rattle.written.specs.Run.{run-written, run-slots, run-rest}
-use Rattle.written.specs.Pages.{slots-length, flatSlot, lastCount, rowLength, usedEnd, Filled, Unused, level-flat, level-written, level-filled, level-read, level-rest}
+use Rattle.written.specs.Written.{levelWritten, headWritten, LevelInside, HeadInside}
+use Rattle.layout.specs.Words.{firstPair, laidOver, levelRun}
+use Rattle.layout.specs.Stream.{cut, fencesFrom, laidFrom, areStream, stream-laid, laid-stream}
+use Rattle.layout.specs.Run.{run-written, run-slots, run-rest}
+use Rattle.layout.specs.Pages.{slots-length, flatSlot, lastCount, rowLength, usedEnd, Filled, Unused, level-flat, level-written, level-filled, level-read, level-rest}
 use Rattle.written.specs.Row.{RowInside, rowPlace, rowSlot, rowSlots, firstBelow, rowWritten}
 use Rattle.written.specs.Tested.{unused, filled, unused-tells, unused-told, filled-tells, filled-told}
 

@@ -3,9 +3,6 @@
 -- (Bottom); the tests of words and pages (Tested); that the tests decide it (Decided); that this is what the whole-store test asks (Parts); and that the places lie
 -- inside a store (Inside).
 pub mod Written
-pub mod Stream
-pub mod Run
-pub mod Pages
 pub mod Row
 pub mod Position
 pub mod Bottom

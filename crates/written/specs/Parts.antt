@@ -18,9 +18,11 @@ use Rattle.slot.specs.Slot.{slotAt}
 use Rattle.rules.specs.Tree.{Level}
 use Rattle.rules.specs.Level.{index, fences, place, weave, paged}
 use Rattle.rules.specs.Store.{runWords}
-use Rattle.rules.specs.Sound.{pagesOf, slotsFrom, headSlots, countAt, pageSlots, levelSlots, entriesOf, firstAt, legal, inOrder, fencePages, firstIsLeast, headRight, pageFormed, ascending, levelLaid, withinCapacity, levelSound, headSound}
+use Rattle.rules.specs.Sound.{slotsFrom, headSlots, countAt, pageSlots, levelSlots, entriesOf, firstAt, legal, inOrder, fencePages, firstIsLeast, headRight, pageFormed, ascending, levelLaid, withinCapacity, levelSound, headSound}
+use Rattle.geometry.specs.Directory.{pagesOf, pages-none}
 use Rattle.entries.specs.Ready.{head-ascends}
-use Rattle.written.specs.Written.{firstPair, laidOver, countOf, pageRun, levelRun, levelWritten, headWritten}
+use Rattle.written.specs.Written.{levelWritten, headWritten}
+use Rattle.layout.specs.Words.{firstPair, laidOver, countOf, pageRun, levelRun}
 
 -- The places of a level's words by its geometry are those by its start.
 slot-place : (g : Geometry) (i p : ℕ) → slotPlace g i p 0 ≡ levelStart g i + 64 * p + 1
@@ -42,16 +44,12 @@ unfolding weave place
 weave-none [] = refl
 weave-none (e ∷ es) = rw (weave-none es) refl
 
-pub pages-none : (g : Geometry) (w : List ℕ) (i : ℕ) → ltb i (g .levels) ≡ false → pagesOf g w i ≡ 0
-unfolding pagesOf
-pages-none g w i e = rw (e, pagesOf) refl
-
 no-fences : (first : ℕ → Pair) → fences first 0 ≡ []
 unfolding fences span
 no-fences first = refl
 
 none-below : (g : Geometry) (w : List ℕ) (i : ℕ) → i ≡ bottom g → pagesOf g w (suc i) ≡ 0
-none-below g w i e = pages-none g w (suc i) (le-ltb (suc i) (g .levels) (omega arith))
+none-below g w i e = pages-none g w (suc i) (omega arith)
 
 pub level-laid : (g : Geometry) (w : List ℕ) (i : ℕ) (es : Level) →
     levelLaid g w i es ≡ laidOver (not (eqb i (bottom g))) (firstPair w (levelStart g (suc i))) (pagesOf g w (suc i)) es

@@ -21,7 +21,7 @@ use Rattle.rules.specs.Tree.{Entry, Level}
 use Rattle.rules.specs.Level.{index, internal, fenceKind, fenceOf}
 use Rattle.rules.specs.Sound.{entriesOf, ascending}
 use Rattle.written.specs.declared.Row.{Row}
-use Rattle.written.specs.Stream.{sameSlot, entryOf, isIndex, slots-apart, index-same, passed, fence-kind, entryNext, fencedAt, wanted, ended, areStream}
+use Rattle.layout.specs.Stream.{sameSlot, entryOf, isIndex, slots-apart, index-same, passed, fence-kind, entryNext, fencedAt, wanted, ended, areStream}
 use Rattle.written.specs.Row.{rowSlot, firstBelow, rises, rising, nothingLeft, slotsOn, rowSlots, entryIn, nextEntry, entryAt, wantedAt, isWanted, entryFits, goesOn, rowWritten}
 
 -- The entries of slots, a fence or an entry first; an entry passes no fence.

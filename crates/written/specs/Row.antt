@@ -16,12 +16,13 @@ use Rattle.rules.specs.Tree.{Level}
 use Rattle.rules.specs.Level.{fenceKind}
 use Rattle.rules.specs.Sound.{entriesOf, ascending}
 use Rattle.written.specs.declared.Row.{Row}
-use Rattle.written.specs.Written.{firstPair}
-use Rattle.written.specs.Stream.{sameSlot, entryOf, isIndex, entryNext, fencedAt, wanted, areStream}
+use Rattle.layout.specs.Words.{firstPair}
+use Rattle.layout.specs.Stream.{sameSlot, entryOf, isIndex, entryNext, fencedAt, wanted, areStream}
+use Rattle.geometry.specs.Places.{wordsInPage, wordsInSlot, slotsInPage}
 
 -- The place of slot n of a row: in pages of 64 words, or slot after slot.
 unfoldable pub rowPlace : Row → ℕ → ℕ
-rowPlace row n = cond (row .paged) (row .start + 64 * (n / 21) + 1 + 3 * (n % 21)) (row .start + 3 * n)
+rowPlace row n = cond (row .paged) (row .start + wordsInPage * (n / slotsInPage) + 1 + wordsInSlot * (n % slotsInPage)) (row .start + wordsInSlot * n)
 
 unfoldable pub rowSlot : List ℕ → Row → ℕ → Slot
 rowSlot w row n = slotAt w (rowPlace row n)
@@ -33,7 +34,7 @@ firstBelow w row = firstPair w (row .«below_start»)
 -- A row's slots, and the page heads below, lie inside the words.
 pub record RowInside (w : List ℕ) (row : Row) : Type 0 where
   pub slots-inside : (n : ℕ) → n < row .slots → rowPlace row n + 3 ≤ length w
-  pub below-inside : row .«below_start» + 64 * row .below ≤ length w
+  pub below-inside : row .«below_start» + wordsInPage * row .below ≤ length w
   pub slots-few : row .slots < 4294967296
 
 -- A row that has no fences: over no pages, and without internal ones.

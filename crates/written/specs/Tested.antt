@@ -9,10 +9,10 @@ use lib.ListN.{getD}
 use lib.Dec.{leb, eqb}
 use borrow.Author.Tests.{eqb-true, eqb-false, eq-eqb, ne-eqb, leb-true, leb-false, le-leb}
 use Rattle.laws.specs.Tests.{and-left, and-right, and-true}
-use Rattle.geometry.specs.Places.{erased}
+use Rattle.geometry.specs.Places.{erased, slotsInPage}
 use Rattle.rules.specs.Level.{pagesFor}
-use Rattle.written.specs.Written.{countOf}
-use Rattle.written.specs.Pages.{lastCount, rowLength, Filled, Unused}
+use Rattle.layout.specs.Words.{countOf}
+use Rattle.layout.specs.Pages.{lastCount, rowLength, Filled, Unused}
 
 -- Words from a place on, k of them, that are all unused.
 unfoldable pub blank : List ℕ → ℕ → ℕ → Bool
@@ -25,10 +25,10 @@ unused w from to = blank w from (to - from)
 -- Pages from p on, k of them, that are all full; pages filled left to right.
 unfoldable pub fullPages : List ℕ → ℕ → ℕ → ℕ → Bool
 fullPages w start p zero = true
-fullPages w start p (suc k) = elim (eqb (countOf w start p) 21) [ true ↦ fullPages w start (p + 1) k | false ↦ false ]
+fullPages w start p (suc k) = elim (eqb (countOf w start p) slotsInPage) [ true ↦ fullPages w start (p + 1) k | false ↦ false ]
 
 unfoldable pub lastRight : ℕ → ℕ → Bool
-lastRight count last = leb count 21 && (leb 1 count || eqb last 0)
+lastRight count last = leb count slotsInPage && (leb 1 count || eqb last 0)
 
 unfoldable pub filled : List ℕ → ℕ → ℕ → Bool
 filled w start pages = fullPages w start 0 (pages - 1) && lastRight (lastCount w start pages) (pages - 1)

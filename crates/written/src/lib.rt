@@ -7,17 +7,24 @@ ghost use mathlib.Core.Bool.{true, _&&_};
 ghost use lib.ListN.{length};
 ghost use Rattle.rules.specs.Level.{index, internal, fenceOf};
 ghost use Rattle.rules.specs.Sound.{slotsFrom, entriesOf};
-ghost use Rattle.written.specs.Written.{firstPair, levelRun, levelWritten, headWritten, LevelInside, HeadInside};
-ghost use Rattle.written.specs.Stream.{sameSlot, entryOf, isIndex, passed as Spec·passed, entryNext, fencedAt};
+ghost use Rattle.written.specs.Written.{levelWritten, headWritten, LevelInside, HeadInside};
+ghost use Rattle.layout.specs.Words.{firstPair, levelRun};
+ghost use Rattle.layout.specs.Stream.{sameSlot, entryOf, isIndex, passed as Spec·passed, entryNext, fencedAt};
 ghost use Rattle.written.specs.Row.{RowInside, Unfenced, rowPlace, rowSlot, rowSlots, nextEntry, nothingLeft, wantedAt, isWanted, entryFits, rises as Spec·rises, rowWritten};
 ghost use Rattle.written.specs.Tested.{filled, lastRight, unused as Spec·unused};
+ghost use Rattle.geometry.specs.Places.{wordsInPage, wordsInSlot};
 use geometry::ERASED;
 use geometry::FIRST_SLOT;
+use geometry::LevelPlace;
 use geometry::PAGE_SLOTS;
 use geometry::PAGE_WORDS;
 use geometry::SLOT_WORDS;
 use laws::both;
 use laws::either;
+use layout::entry_next;
+use layout::fence_of;
+use layout::fenced_at;
+use layout::inner_fence;
 use page::is_fence;
 use page::is_normal;
 use slot::Kind;
@@ -48,40 +55,33 @@ pub struct Verdict {
 
 // Whether a level is the writing of its own index entries over the pages below: its pages are filled left to right, its slots are the
 // stream, and every word behind them is unused.
-pub fn level_written(
-    words: &[u32],
-    start: usize,
-    room: u32,
-    pages: u32,
-    fenced: bool,
-    below_start: usize,
-    below: u32,
-) -> Verdict
-    requires { ⌜ LevelInside (now words) start room pages «below_start» below ⌝ }
-    ensures exact { λ r. ⌜ r .ok ≡ levelWritten (now (words .entry)) start room pages fenced «below_start» below ⌝ }
-    ensures counted { λ r. ⌜ (r .ok ≡ true → r .entries ≡ length (entriesOf (levelRun (now (words .entry)) start pages))) ⌝ }
+pub fn level_written(words: &[u32], own: LevelPlace, fenced: bool, below: LevelPlace) -> Verdict
+    requires { ⌜ LevelInside (now words) (own .start) (own .room) (own .pages) (below .start) (below .pages) ⌝ }
+    ensures exact { λ r. ⌜ r .ok ≡ levelWritten (now (words .entry)) (own .start) (own .room) (own .pages) fenced (below .start) (below .pages) ⌝ }
+    ensures counted { λ r. ⌜ (r .ok ≡ true → r .entries ≡ length (entriesOf (levelRun (now (words .entry)) (own .start) (own .pages)))) ⌝ }
 {
-    if !pages_filled(words, start, pages) {
+    let start = own.start as usize;
+    if !pages_filled(words, start, own.pages) {
         return Verdict {
             ok: false,
             entries: 0,
         };
     }
-    let last = (pages - 1) as usize;
+    let last = (own.pages - 1) as usize;
     let count = words[start + PAGE_WORDS * last] as usize;
     let row = Row {
         start,
         paged: true,
         fenced,
-        slots: 21 * last + count,
-        below_start,
-        below,
+        slots: PAGE_SLOTS as usize * last + count,
+        below_start: below.start as usize,
+        below: below.pages,
     };
     row_in_room(
         words,
         row,
         start + PAGE_WORDS * last + FIRST_SLOT + SLOT_WORDS * count,
-        start + PAGE_WORDS * room as usize,
+        start + PAGE_WORDS * own.room as usize,
     )
 }
 
@@ -91,11 +91,10 @@ pub fn head_written(
     start: usize,
     room: u32,
     count: u32,
-    below_start: usize,
-    below: u32,
+    below: LevelPlace,
 ) -> Verdict
-    requires { ⌜ HeadInside (now words) start room count «below_start» below ⌝ }
-    ensures exact { λ r. ⌜ r .ok ≡ headWritten (now (words .entry)) start room count «below_start» below ⌝ }
+    requires { ⌜ HeadInside (now words) start room count (below .start) (below .pages) ⌝ }
+    ensures exact { λ r. ⌜ r .ok ≡ headWritten (now (words .entry)) start room count (below .start) (below .pages) ⌝ }
     ensures counted { λ r. ⌜ (r .ok ≡ true → r .entries ≡ length (entriesOf (slotsFrom (now (words .entry)) start count))) ⌝ }
 {
     let slots = count as usize;
@@ -104,8 +103,8 @@ pub fn head_written(
         paged: false,
         fenced: false,
         slots,
-        below_start,
-        below,
+        below_start: below.start as usize,
+        below: below.pages,
     };
     row_in_room(
         words,
@@ -135,7 +134,7 @@ fn row_in_room(words: &[u32], row: Row, used: usize, end: usize) -> Verdict
 
 // Whether pages are filled left to right: all full but the last, which has a slot unless it is the only page.
 fn pages_filled(words: &[u32], start: usize, pages: u32) -> bool
-    requires { ⌜ (1 ≤ pages) × (start + 64 * pages ≤ length (now words)) ⌝ }
+    requires { ⌜ (1 ≤ pages) × (start + wordsInPage * pages ≤ length (now words)) ⌝ }
     ensures { λ b. ⌜ b ≡ filled (now (words .entry)) start pages ⌝ }
 {
     let last = pages - 1;
@@ -256,7 +255,7 @@ fn entry_fits(words: &[u32], row: Row, n: usize, p: u32, entry: Slot) -> bool
     ensures { λ b. ⌜ b ≡ entryFits (now (words .entry)) row n p entry ⌝ }
 {
     let pair = entry.pair;
-    let next = entry_next(words, row.below_start, row.below, p, pair);
+    let next = entry_next(words, row.below_start, row.below, Pid(p), pair);
     let due = both(!fenced_at(row.fenced, n), next);
     both(due, is_index(entry))
 }
@@ -293,15 +292,15 @@ fn wanted(words: &[u32], row: Row, n: usize, r: usize, p: u32) -> Slot
     ensures { λ s. ⌜ s ≡ wantedAt (now (words .entry)) row n r p ⌝ }
 {
     if row.slots <= r {
-        return fence_of(words, row.below_start, p);
+        return fence_of(words, row.below_start, Pid(p));
     }
     let entry = slot_of(words, row, r);
     let pair = entry.pair;
-    if !entry_next(words, row.below_start, row.below, p, pair) {
-        return fence_of(words, row.below_start, p);
+    if !entry_next(words, row.below_start, row.below, Pid(p), pair) {
+        return fence_of(words, row.below_start, Pid(p));
     }
     if fenced_at(row.fenced, n) {
-        return inner_fence(pair, p);
+        return inner_fence(pair, Pid(p));
     }
     index_of(entry)
 }
@@ -311,25 +310,6 @@ fn nothing_left(row: Row, r: usize, p: u32) -> bool
     ensures { λ b. ⌜ b ≡ nothingLeft row r p ⌝ }
 {
     row.slots <= r && row.below <= p
-}
-
-// Whether an entry at position n would be first in a page, where internal fences go.
-pub fn fenced_at(fenced: bool, n: usize) -> bool
-    ensures { λ b. ⌜ b ≡ fencedAt fenced n ⌝ }
-{
-    fenced && n % 21 == 0
-}
-
-// Whether an entry of this pair comes next: no fence is left, or the next one is above it.
-pub fn entry_next(words: &[u32], below_start: usize, below: u32, p: u32, pair: Pair) -> bool
-    requires { ⌜ «below_start» + 64 * below ≤ length (now words) ⌝ }
-    ensures { λ b. ⌜ b ≡ entryNext (firstPair (now (words .entry)) «below_start») below p pair ⌝ }
-{
-    if below <= p {
-        return true;
-    }
-    let fence = fence_of(words, below_start, p);
-    comes_before(pair, fence.pair)
 }
 
 // The position of the first index entry from a position on, or of the row's end.
@@ -352,49 +332,17 @@ fn next_entry(words: &[u32], row: Row, from: usize) -> usize
 
 // The slot at position n of a row.
 fn slot_of(words: &[u32], row: Row, n: usize) -> Slot
-    requires { ⌜ rowPlace row n + 3 ≤ length (now words) ⌝ }
+    requires { ⌜ rowPlace row n + wordsInSlot ≤ length (now words) ⌝ }
     ensures { λ s. ⌜ s ≡ rowSlot (now (words .entry)) row n ⌝ }
 {
     if row.paged {
+        let slots = PAGE_SLOTS as usize;
         return read_slot(
             words,
-            row.start + PAGE_WORDS * (n / 21) + FIRST_SLOT + SLOT_WORDS * (n % 21),
+            row.start + PAGE_WORDS * (n / slots) + FIRST_SLOT + SLOT_WORDS * (n % slots),
         );
     }
     read_slot(words, row.start + SLOT_WORDS * n)
-}
-
-// The fence of page p of the level below: of page 0 with the least pair, of any other with the pair in the page's first slot.
-pub fn fence_of(words: &[u32], below_start: usize, p: u32) -> Slot
-    requires { ⌜ «below_start» + 64 * p + 64 ≤ length (now words) ⌝ }
-    ensures { λ s. ⌜ s ≡ fenceOf (firstPair (now (words .entry)) «below_start») p ⌝ }
-{
-    if p == 0 {
-        return Slot {
-            pair: least_pair(),
-            kind: Kind::External,
-            page: Pid(0),
-        };
-    }
-    let first = read_slot(words, below_start + PAGE_WORDS * p as usize + FIRST_SLOT);
-    let pair = first.pair;
-    Slot {
-        pair,
-        kind: Kind::External,
-        page: Pid(p),
-    }
-}
-
-// The internal fence with a pair, naming the page of the last fence.
-pub fn inner_fence(pair: Pair, p: u32) -> Slot
-    ensures { λ s. ⌜ s ≡ internal pair (p - 1) ⌝ }
-{
-    let page = if p == 0 { 0 } else { p - 1 };
-    Slot {
-        pair,
-        kind: Kind::Internal,
-        page: Pid(page),
-    }
 }
 
 // The slot that an index entry is written in.

@@ -45,8 +45,8 @@ wrapping-add-u32-requires-2 c κs = search needs
 edits-line-requires : tie.Need-edits-line-requires Inv-loop μ-loop
 edits-line-requires c κs = search needs
 
-changed-line-requires : tie.Need-changed-line-requires Inv-loop μ-loop
-changed-line-requires c κs = search needs
+edit-line-requires : tie.Need-edit-line-requires Inv-loop μ-loop
+edit-line-requires c κs = search needs
 
 same-length : tie.Need-same-length Inv-loop μ-loop
 same-length c = search needs
@@ -74,7 +74,7 @@ edit-all-spec =
     pages-of-requires-2
     wrapping-add-u32-requires-2
     edits-line-requires
-    changed-line-requires
+    edit-line-requires
     same-length
     same-length-2
     returns)

@@ -16,8 +16,8 @@ use Rattle.change.proofs.change_and_settle.Tie as tie
 whole-fault-requires : tie.Need-whole-fault-requires
 whole-fault-requires c κs = search needs
 
-enum-known-level : tie.Need-enum-known-level
-enum-known-level c = search needs
+enum-known-fault : tie.Need-enum-known-fault
+enum-known-fault c = search needs
 
 enum-told : tie.Need-enum-told
 enum-told c = search needs
@@ -46,7 +46,7 @@ returns : tie.Need-returns
 unfolding faultOn
 returns c =
     let a = c .before .before .before .before .before .before .before .args in
-    merge-stays (a .g) (indexed (a .entry)) (now (a .store)) (now (a .work)) _ (sym (c .before .before .before .whole-fault .ensures) ∙ ap wholeTold (c .before .level .given .1))
+    merge-stays (a .g) (indexed (a .entry)) (now (a .store)) (now (a .work)) _ (sym (c .before .before .before .whole-fault .ensures) ∙ ap wholeTold (c .before .fault .given .1))
 
 same-length-2 : tie.Need-same-length-2
 same-length-2 c = search needs
@@ -70,7 +70,7 @@ change-and-settle-spec =
     tie.close
     (tie.spec
     whole-fault-requires
-    enum-known-level
+    enum-known-fault
     enum-told
     edit-head-requires
     settle-head-requires

@@ -13,7 +13,9 @@ add-result : tie.Need-add-result
 add-result c = search needs
 
 returns-2 : tie.Need-returns-2
-returns-2 c = rw (c .before .if1 .left) (ap (leb (c .before .before .args .g .head)) (add-one (c .before .before .args .entries)))
+returns-2 c =
+    let a = c .before .before .args in
+    rw (c .before .if1 .left) (ap (leb (a .g .head)) (add-one (a .entries)))
 
 pub fills-head-spec : {M : Type 1} → statement M
 fills-head-spec = tie.close (tie.spec returns add-result returns-2)

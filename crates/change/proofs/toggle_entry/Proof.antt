@@ -5,14 +5,18 @@ use borrow.Author.Needs.{needs}
 use Rattle.change.proofs.toggle_entry.Statement.{statement}
 use Rattle.change.proofs.toggle_entry.Tie as tie
 
-sub-remove-entry : tie.Need-sub-remove-entry
-sub-remove-entry c = omega (arith, c .before .before .before .pre .some)
+sub-t9 : tie.Need-sub-t9
+sub-t9 c = omega (arith, c .before .before .before .pre .some)
 
 remove-entry-requires : tie.Need-remove-entry-requires
-remove-entry-requires c κs = (omega (arith, c .before .before .before .pre .some, c .before .before .before .pre .within), (omega (arith, c .before .before .before .pre .more), c .before .before .before .pre .small))
+remove-entry-requires c κs =
+    let pre = c .before .before .before .pre in
+    (omega (arith, pre .some, pre .within), (omega (arith, pre .more), pre .small))
 
 add-entry-requires : tie.Need-add-entry-requires
-add-entry-requires c κs = (c .before .before .before .pre .within, (c .before .before .before .pre .more, c .before .before .before .pre .small))
+add-entry-requires c κs =
+    let pre = c .before .before .before .pre in
+    (pre .within, (pre .more, pre .small))
 
 same-length : tie.Need-same-length
 same-length c = search needs
@@ -32,7 +36,7 @@ pub toggle-entry-spec : {M : Type 1} → statement M
 toggle-entry-spec =
     tie.close
     (tie.spec
-    sub-remove-entry
+    sub-t9
     remove-entry-requires
     add-entry-requires
     same-length

@@ -19,7 +19,9 @@ count-in-page-requires : tie.Need-count-in-page-requires Inv-loop μ-loop
 count-in-page-requires c κs = (c .before .before .before .before .pre, c .if1 .taken)
 
 add-count : tie.Need-add-count Inv-loop μ-loop
-add-count c = omega (arith, c .before .before .before .loop .inv .few, c .before .before .before .loop .inv .inside, c .before .before .before .before .before .pre .few-pages, c .count-in-page .ensures .1)
+add-count c =
+    let loop = c .before .before .before .loop in
+    omega (arith, loop .inv .few, loop .inv .inside, c .before .before .before .before .before .pre .few-pages, c .count-in-page .ensures .1)
 
 add-page : tie.Need-add-page Inv-loop μ-loop
 add-page c = omega (arith, c .before .before .before .loop .inv .inside, c .before .before .before .before .before .pre .few-pages)
@@ -28,10 +30,14 @@ loop-less : tie.Need-loop-less Inv-loop μ-loop
 loop-less c = omega (arith, c .before .if1 .taken)
 
 loop-again : tie.Need-loop-again Inv-loop μ-loop
-loop-again c = pages-go-on (now (c .before .before .before .before .before .args .words)) (c .before .before .before .before .before .args .run) _ _ _ (c .before .if1 .taken) (c .count-in-page .ensures .0) (c .count-in-page .ensures .1) (c .before .before .before .loop .inv)
+loop-again c =
+    let a = c .before .before .before .before .before .args in
+    pages-go-on (now (a .words)) (a .run) _ _ _ (c .before .if1 .taken) (c .count-in-page .ensures .0) (c .count-in-page .ensures .1) (c .before .before .before .loop .inv)
 
 returns : tie.Need-returns Inv-loop μ-loop
-returns c = pages-end (now (c .before .before .before .before .args .words)) (c .before .before .before .before .args .run) _ _ (c .if1 .left) (c .before .before .loop .inv)
+returns c =
+    let a = c .before .before .before .before .args in
+    pages-end (now (a .words)) (a .run) _ _ (c .if1 .left) (c .before .before .loop .inv)
 
 pub count-entries-spec : {M : Type 1} → statement M
 count-entries-spec =

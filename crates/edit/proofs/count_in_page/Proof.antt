@@ -13,7 +13,7 @@ use Rattle.edit.proofs.count_in_page.Statement.{statement}
 use Rattle.edit.proofs.count_in_page.Tie as tie
 
 abbrev Inv-loop : tie.InvT-loop
-Inv-loop words run page slots count₀ slot₀ count slot = SlotsCounted (λ j. slotAt words (placeIn run page j)) slots slot count
+Inv-loop words run page slots count₀ slot₀ count slot = SlotsCounted (λ j. slotAt words (placeIn run (page .0) j)) slots slot count
 
 abbrev μ-loop : tie.MeasureT-loop
 μ-loop words run page slots count₀ slot₀ count slot = slots - slot
@@ -29,8 +29,9 @@ place-in-requires c κs = search needs
 
 read-slot-requires : tie.Need-read-slot-requires Inv-loop μ-loop
 read-slot-requires c κs =
+    let pre = c .before .before .before .before .before .pre in
     let a = c .before .before .before .before .before .args in
-    slot-inside (now (a .words)) (a .run) _ (a .page) _ _ _ (c .before .before .before .before .before .pre .0) (c .before .before .before .before .before .pre .1) (c .before .before .before .count-in .ensures) (c .before .loop-test .taken) (c .place-in .ensures)
+    slot-inside (now (a .words)) (a .run) _ (a .page .0) _ _ _ (pre .0) (pre .1) (c .before .before .before .count-in .ensures) (c .before .loop-test .taken) (c .place-in .ensures)
 
 is-fence-requires : tie.Need-is-fence-requires Inv-loop μ-loop
 is-fence-requires c κs = search needs
@@ -39,7 +40,9 @@ one-if-requires : tie.Need-one-if-requires Inv-loop μ-loop
 one-if-requires c κs = search needs
 
 add-count : tie.Need-add-count Inv-loop μ-loop
-add-count c = omega (arith, c .before .before .before .before .before .loop .inv .few, c .before .before .before .before .before .loop .inv .inside, c .one-if .ensures .1)
+add-count c =
+    let loop = c .before .before .before .before .before .loop in
+    omega (arith, loop .inv .few, loop .inv .inside, c .one-if .ensures .1)
 
 add-slot : tie.Need-add-slot Inv-loop μ-loop
 add-slot c = search needs
@@ -56,8 +59,8 @@ returns : tie.Need-returns Inv-loop μ-loop
 returns c =
     let a = c .before .before .before .before .args in
     let counted = c .before .before .count-in .ensures in (
-      page-counted (now (a .words)) (a .run) (a .page) _ _ _ counted (c .loop-test .left) (c .before .loop .inv),
-      page-few (now (a .words)) (a .run) (a .page) _ _ _ counted (c .loop-test .left) (c .before .loop .inv) _ (c .before .before .before .before .pre .0),
+      page-counted (now (a .words)) (a .run) (a .page .0) _ _ _ counted (c .loop-test .left) (c .before .loop .inv),
+      page-few (now (a .words)) (a .run) (a .page .0) _ _ _ counted (c .loop-test .left) (c .before .loop .inv) _ (c .before .before .before .before .pre .0),
     )
 
 pub count-in-page-spec : {M : Type 1} → statement M

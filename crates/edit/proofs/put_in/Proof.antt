@@ -15,7 +15,9 @@ abbrev μ-loop : tie.MeasureT-loop
 μ-loop words₀ place end slot i₀ words i = i
 
 loop-holds : tie.Need-loop-holds Inv-loop μ-loop
-loop-holds c = record { not-past = c .before .pre .0 .0; from-end = omega arith; long = refl; moved = up-begins (now (c .before .args .words)) (c .before .args .end) }
+loop-holds c =
+    let a = c .before .args in
+    record { not-past = c .before .pre .0 .0; from-end = omega arith; long = refl; moved = up-begins (now (a .words)) (a .end) }
 
 sub-i : tie.Need-sub-i Inv-loop μ-loop
 sub-i c = search needs
@@ -40,13 +42,15 @@ loop-less c = search needs
 
 loop-again : tie.Need-loop-again Inv-loop μ-loop
 loop-again c =
-    let n : c .before .before .loop .i - 1 + 1 ≡ c .before .before .loop .i = omega arith in
-    let m = c .before .before .loop .inv .moved in
+    let a = c .before .before .before .before .args in
+    let loop = c .before .before .loop in
+    let n : loop .i - 1 + 1 ≡ loop .i = omega arith in
+    let m = loop .inv .moved in
     record {
       not-past = omega arith;
-      from-end = omega (arith, c .before .before .loop .inv .from-end);
-      long = simp length-set (c .before .before .loop .inv .long);
-      moved = up-goes-on (now (c .before .before .before .before .args .words)) (c .before .before .before .before .args .end) (c .before .before .loop .i - 1) (omega (arith, c .before .before .loop .inv .from-end)) (omega arith) (c .before .before .loop .words) (rw n m);
+      from-end = omega (arith, loop .inv .from-end);
+      long = simp length-set (loop .inv .long);
+      moved = up-goes-on (now (a .words)) (a .end) (loop .i - 1) (omega (arith, loop .inv .from-end)) (omega arith) (loop .words) (rw n m);
     }
 
 write-slot-requires : tie.Need-write-slot-requires Inv-loop μ-loop
@@ -57,8 +61,10 @@ same-length c = search needs
 
 returns : tie.Need-returns Inv-loop μ-loop
 returns c =
-    let stop : c .before .before .before .before .before .loop .i ≡ c .before .before .before .before .before .before .before .args .place = omega (arith, c .before .before .before .before .before .loop .inv .not-past) in
-    (c .before .before .write-slot .ensures) ∙ up-ends (now (c .before .before .before .before .before .before .before .args .words)) (c .before .before .before .before .before .before .before .args .end) (c .before .before .before .before .before .before .before .args .slot) (c .before .before .before .before .before .before .before .args .place) (c .before .before .before .before .before .loop .words) (rw stop at (c .before .before .before .before .before .loop .inv .moved))
+    let a = c .before .before .before .before .before .before .before .args in
+    let loop = c .before .before .before .before .before .loop in
+    let stop : loop .i ≡ a .place = omega (arith, loop .inv .not-past) in
+    (c .before .before .write-slot .ensures) ∙ up-ends (now (a .words)) (a .end) (a .slot) (a .place) (loop .words) (rw stop at (loop .inv .moved))
 
 pub put-in-spec : {M : Type 1} → statement M
 put-in-spec =

@@ -7,6 +7,9 @@ use Rattle.edit.proofs.remove_entry.Tie as tie
 slice-read-count : tie.Need-slice-read-count
 slice-read-count c = search needs
 
+cast-place : tie.Need-cast-place
+cast-place c = search needs
+
 mul-place : tie.Need-mul-place
 mul-place c = search needs
 
@@ -43,6 +46,7 @@ remove-entry-spec =
     tie.close
     (tie.spec
     slice-read-count
+    cast-place
     mul-place
     add-place
     cast-end

@@ -42,10 +42,11 @@ loop-less c = search needs
 
 loop-again : tie.Need-loop-again Inv-loop μ-loop
 loop-again c =
+    let loop = c .before .before .loop in
     record {
       not-past = omega arith;
-      long = simp length-set (c .before .before .loop .inv .long);
-      moves = down-goes-on (c .before .before .before .args .end) (c .before .before .loop .i) (c .before .before .loop .words) (omega arith) (omega (arith, c .before .before .loop .inv .long)) ∙ (c .before .before .loop .inv .moves);
+      long = simp length-set (loop .inv .long);
+      moves = down-goes-on (c .before .before .before .args .end) (loop .i) (loop .words) (omega arith) (omega (arith, loop .inv .long)) ∙ (loop .inv .moves);
     }
 
 mul-words-3 : tie.Need-mul-words-3 Inv-loop μ-loop
@@ -77,8 +78,9 @@ same-length c = search needs
 
 returns : tie.Need-returns Inv-loop μ-loop
 returns c =
-    let stop : c .before .loop .i + 3 ≡ c .before .before .args .end = omega (arith, c .before .loop .inv .not-past) in
-    down-ends (c .before .before .args .end) (c .before .loop .i) (c .before .loop .words) stop ∙ (c .before .loop .inv .moves)
+    let a = c .before .before .args in
+    let stop : c .before .loop .i + 3 ≡ a .end = omega (arith, c .before .loop .inv .not-past) in
+    down-ends (a .end) (c .before .loop .i) (c .before .loop .words) stop ∙ (c .before .loop .inv .moves)
 
 pub take-out-spec : {M : Type 1} → statement M
 take-out-spec =

@@ -8,6 +8,9 @@ use Rattle.entries.proofs.count_in.Tie as tie
 cast-count : tie.Need-cast-count
 cast-count c = search needs
 
+cast-count-2 : tie.Need-cast-count-2
+cast-count-2 c = search needs
+
 mul-count : tie.Need-mul-count
 mul-count c = search needs
 
@@ -31,4 +34,12 @@ returns-2 c = omega arith
 pub count-in-spec : {M : Type 1} → statement M
 count-in-spec =
     tie.close
-    (tie.spec cast-count mul-count add-count mul-count-2 shared-slice-read-count returns returns-2)
+    (tie.spec
+    cast-count
+    cast-count-2
+    mul-count
+    add-count
+    mul-count-2
+    shared-slice-read-count
+    returns
+    returns-2)

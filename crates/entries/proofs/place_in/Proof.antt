@@ -7,6 +7,9 @@ use Rattle.entries.proofs.place_in.Tie as tie
 cast-result : tie.Need-cast-result
 cast-result c = search needs
 
+cast-result-2 : tie.Need-cast-result-2
+cast-result-2 c = search needs
+
 mul-result : tie.Need-mul-result
 mul-result c = search needs
 
@@ -15,6 +18,9 @@ add-result c = search needs
 
 add-result-2 : tie.Need-add-result-2
 add-result-2 c = search needs
+
+cast-result-3 : tie.Need-cast-result-3
+cast-result-3 c = search needs
 
 mul-result-2 : tie.Need-mul-result-2
 mul-result-2 c = search needs
@@ -29,4 +35,13 @@ returns c = search needs
 pub place-in-spec : {M : Type 1} → statement M
 place-in-spec =
     tie.close
-    (tie.spec cast-result mul-result add-result add-result-2 mul-result-2 add-result-3 returns)
+    (tie.spec
+    cast-result
+    cast-result-2
+    mul-result
+    add-result
+    add-result-2
+    cast-result-3
+    mul-result-2
+    add-result-3
+    returns)

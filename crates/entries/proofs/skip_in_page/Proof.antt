@@ -11,10 +11,10 @@ use Rattle.entries.proofs.skip_in_page.Statement.{statement}
 use Rattle.entries.proofs.skip_in_page.Tie as tie
 
 abbrev Inv-loop : tie.InvT-loop
-Inv-loop words run page from pair count slot₀ slot = skip pair (pageFrom words run page slot) ≡ skip pair (pageFrom words run page from)
+Inv-loop words run page pair count slot₀ slot = skip pair (pageFrom words run (page .0) slot) ≡ skip pair (pageFrom words run (page .0) slot₀)
 
 abbrev μ-loop : tie.MeasureT-loop
-μ-loop words run page from pair count slot₀ slot = count - slot
+μ-loop words run page pair count slot₀ slot = count - slot
 
 count-in-requires : tie.Need-count-in-requires Inv-loop μ-loop
 count-in-requires c κs = search needs
@@ -27,8 +27,9 @@ place-in-requires c κs = search needs
 
 read-slot-requires : tie.Need-read-slot-requires Inv-loop μ-loop
 read-slot-requires c κs =
+    let pre = c .before .before .before .before .before .pre in
     let a = c .before .before .before .before .before .args in
-    slot-inside (now (a .words)) (a .run) _ (a .page) _ _ _ (c .before .before .before .before .before .pre .0) (c .before .before .before .before .before .pre .1) (c .before .before .before .count-in .ensures) (c .before .loop-test .taken) (c .place-in .ensures)
+    slot-inside (now (a .words)) (a .run) _ (a .page .0) _ _ _ (pre .0) (pre .1) (c .before .before .before .count-in .ensures) (c .before .loop-test .taken) (c .place-in .ensures)
 
 stops-requires : tie.Need-stops-requires Inv-loop μ-loop
 stops-requires c κs = search needs
@@ -36,9 +37,9 @@ stops-requires c κs = search needs
 returns : tie.Need-returns Inv-loop μ-loop
 returns c =
     let a = c .before .before .before .before .before .before .before .before .args in
-    let read = slot-read (now (a .words)) (a .run) (a .page) _ _ _ (c .before .before .before .place-in .ensures) (c .before .before .read-slot .ensures) in
+    let read = slot-read (now (a .words)) (a .run) (a .page .0) _ _ _ (c .before .before .before .place-in .ensures) (c .before .before .read-slot .ensures) in
     let stop = ap (stopsAt (a .pair)) (sym read) ∙ told-yes _ _ (c .before .stops .ensures) (c .if1 .taken) in
-    (page-stops (now (a .words)) (a .run) (a .page) (a .pair) _ _ (c .before .before .before .before .before .before .count-in .ensures) (c .before .before .before .before .loop-test .taken) stop ∙ c .before .before .before .before .before .loop .inv, λ _. stop)
+    (page-stops (now (a .words)) (a .run) (a .page .0) (a .pair) _ _ (c .before .before .before .before .before .before .count-in .ensures) (c .before .before .before .before .loop-test .taken) stop ∙ c .before .before .before .before .before .loop .inv, λ _. stop)
 
 add-slot : tie.Need-add-slot Inv-loop μ-loop
 add-slot c = search needs
@@ -49,13 +50,14 @@ loop-less c = omega (arith, c .before .before .before .before .loop-test .taken)
 loop-again : tie.Need-loop-again Inv-loop μ-loop
 loop-again c =
     let a = c .before .before .before .before .before .before .before .before .args in
-    let read = slot-read (now (a .words)) (a .run) (a .page) _ _ _ (c .before .before .before .place-in .ensures) (c .before .before .read-slot .ensures) in
-    page-passed (now (a .words)) (a .run) (a .page) (a .pair) _ _ (c .before .before .before .before .before .before .count-in .ensures) (c .before .before .before .before .loop-test .taken) (ap (stopsAt (a .pair)) (sym read) ∙ sym (c .before .stops .ensures) ∙ c .if1 .left) ∙ c .before .before .before .before .before .loop .inv
+    let read = slot-read (now (a .words)) (a .run) (a .page .0) _ _ _ (c .before .before .before .place-in .ensures) (c .before .before .read-slot .ensures) in
+    page-passed (now (a .words)) (a .run) (a .page .0) (a .pair) _ _ (c .before .before .before .before .before .before .count-in .ensures) (c .before .before .before .before .loop-test .taken) (ap (stopsAt (a .pair)) (sym read) ∙ sym (c .before .stops .ensures) ∙ c .if1 .left) ∙ c .before .before .before .before .before .loop .inv
 
 returns-2 : tie.Need-returns-2 Inv-loop μ-loop
 returns-2 c =
+    let count-in = c .before .before .count-in in
     let a = c .before .before .before .before .args in
-    (page-over (now (a .words)) (a .run) (a .page) (a .pair) _ _ (c .before .before .count-in .ensures) _ (c .loop-test .left) (c .before .loop .inv), λ b. absurd (omega (arith, b, c .loop-test .left, c .before .before .count-in .ensures)))
+    (page-over (now (a .words)) (a .run) (a .page .0) (a .pair) _ _ (count-in .ensures) _ (c .loop-test .left) (c .before .loop .inv), λ b. absurd (omega (arith, b, c .loop-test .left, count-in .ensures)))
 
 pub skip-in-page-spec : {M : Type 1} → statement M
 skip-in-page-spec =

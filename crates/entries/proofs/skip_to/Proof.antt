@@ -35,12 +35,14 @@ spot-of-requires c κs = search needs
 
 returns : tie.Need-returns Inv-loop μ-loop
 returns c =
-    let a = c .before .before .before .before .before .before .before .before .before .before .before .args in
-    let counted = c .before .before .before .count-in .ensures in
-    let stop = c .before .before .skip-in-page .ensures .1 (omega (arith, c .before .if2 .taken, counted)) in (
-      upcoming-at (now (a .words)) (a .run) _ _ _ (met-fits (now (a .words)) (a .run) _ _ _ counted (c .before .if2 .taken) _ (c .before .before .before .before .before .before .before .before .before .before .before .pre)) (c .spot-of .ensures) ∙
-          rest-met (now (a .words)) (a .run) _ (a .pair) _ _ _ counted (c .before .before .before .before .if1 .taken) (c .before .before .skip-in-page .ensures .0) (c .before .if2 .taken) stop ∙ c .before .before .before .before .before .before .loop .inv .0,
-      standing-met (now (a .words)) (a .run) _ _ _ (met-fits (now (a .words)) (a .run) _ _ _ counted (c .before .if2 .taken) _ (c .before .before .before .before .before .before .before .before .before .before .before .pre)) (c .spot-of .ensures) (a .pair) _ counted (c .before .if2 .taken) stop,
+    let pre = c .before .before .before .before .before .before .before .before .before .before .before .before .pre in
+    let skip-in-page = c .before .before .before .skip-in-page in
+    let a = c .before .before .before .before .before .before .before .before .before .before .before .before .args in
+    let counted = c .before .before .before .before .count-in .ensures in
+    let stop = skip-in-page .ensures .1 (omega (arith, c .before .if2 .taken, counted)) in (
+      upcoming-at (now (a .words)) (a .run) _ _ _ (met-fits (now (a .words)) (a .run) _ _ _ counted (c .before .if2 .taken) _ pre) (c .spot-of .ensures) ∙
+          rest-met (now (a .words)) (a .run) _ (a .pair) _ _ _ counted (c .before .before .before .before .before .if1 .taken) (skip-in-page .ensures .0) (c .before .if2 .taken) stop ∙ c .before .before .before .before .before .before .before .loop .inv .0,
+      standing-met (now (a .words)) (a .run) _ _ _ (met-fits (now (a .words)) (a .run) _ _ _ counted (c .before .if2 .taken) _ pre) (c .spot-of .ensures) (a .pair) _ counted (c .before .if2 .taken) stop,
     )
 
 add-page : tie.Need-add-page Inv-loop μ-loop
@@ -51,18 +53,19 @@ loop-less c = search needs
 
 loop-again : tie.Need-loop-again Inv-loop μ-loop
 loop-again c =
-    let a = c .before .before .before .before .before .before .before .before .before .before .args in
-    (rest-left (now (a .words)) (a .run) _ (a .pair) _ _ _ (c .before .before .count-in .ensures) (c .before .before .before .if1 .taken) (c .before .skip-in-page .ensures .0) (c .if2 .left) ∙ c .before .before .before .before .before .loop .inv .0, omega arith)
+    let a = c .before .before .before .before .before .before .before .before .before .before .before .args in
+    (rest-left (now (a .words)) (a .run) _ (a .pair) _ _ _ (c .before .before .before .count-in .ensures) (c .before .before .before .before .if1 .taken) (c .before .before .skip-in-page .ensures .0) (c .if2 .left) ∙ c .before .before .before .before .before .before .loop .inv .0, omega arith)
 
 spot-of-requires-2 : tie.Need-spot-of-requires-2 Inv-loop μ-loop
 spot-of-requires-2 c κs = search needs
 
 returns-2 : tie.Need-returns-2 Inv-loop μ-loop
 returns-2 c =
+    let loop = c .before .before .before .loop in
     let a = c .before .before .before .before .before .before .before .before .args in
     let at = c .spot-of2 .ensures in
-    let low = c .before .before .before .loop .inv .1 in (
-      upcoming-at (now (a .words)) (a .run) _ _ _ low at ∙ rest-over (now (a .words)) (a .run) _ _ (a .pair) (c .before .if1 .left) ∙ c .before .before .before .loop .inv .0,
+    let low = loop .inv .1 in (
+      upcoming-at (now (a .words)) (a .run) _ _ _ low at ∙ rest-over (now (a .words)) (a .run) _ _ (a .pair) (c .before .if1 .left) ∙ loop .inv .0,
       standing-ended (now (a .words)) (a .run) _ _ _ low at (c .before .if1 .left),
     )
 

@@ -5,8 +5,14 @@ use borrow.Author.Needs.{needs}
 use Rattle.entries.proofs.spot_of.Statement.{statement}
 use Rattle.entries.proofs.spot_of.Tie as tie
 
+cast-result : tie.Need-cast-result
+cast-result c = search needs
+
 mul-result : tie.Need-mul-result
 mul-result c = search needs
+
+cast-result-2 : tie.Need-cast-result-2
+cast-result-2 c = search needs
 
 add-result : tie.Need-add-result
 add-result c = search needs
@@ -16,4 +22,4 @@ unfolding spotOf
 returns c = refl
 
 pub spot-of-spec : {M : Type 1} → statement M
-spot-of-spec = tie.close (tie.spec mul-result add-result returns)
+spot-of-spec = tie.close (tie.spec cast-result mul-result cast-result-2 add-result returns)

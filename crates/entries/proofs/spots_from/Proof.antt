@@ -19,10 +19,13 @@ skip-to-requires-4 c κs = search needs
 
 returns : tie.Need-returns
 unfolding upcomings skipAll
-returns c = (
-  rw (c .before .before .before .before .before .before .skip-to .ensures .0, c .before .before .before .before .skip-to2 .ensures .0, c .before .before .skip-to3 .ensures .0, c .skip-to4 .ensures .0),
-  record { head = c .before .before .before .before .before .before .skip-to .ensures .1; first = c .before .before .before .before .skip-to2 .ensures .1; second = c .before .before .skip-to3 .ensures .1; third = c .skip-to4 .ensures .1 },
-)
+returns c =
+    let skip-to = c .before .before .before .before .before .before .skip-to in
+    let skip-to2 = c .before .before .before .before .skip-to2 in
+    let skip-to3 = c .before .before .skip-to3 in (
+      rw (skip-to .ensures .0, skip-to2 .ensures .0, skip-to3 .ensures .0, c .skip-to4 .ensures .0),
+      record { head = skip-to .ensures .1; first = skip-to2 .ensures .1; second = skip-to3 .ensures .1; third = c .skip-to4 .ensures .1 },
+    )
 
 pub spots-from-spec : {M : Type 1} → statement M
 spots-from-spec =

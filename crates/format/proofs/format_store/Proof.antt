@@ -1,9 +1,10 @@
+use Rattle.geometry.specs.Directory.{place-start}
 -- `format_store` makes the store of the empty set: the head first, then level by level its first page. Assumes nothing.
 use Prim.Native.Nat.{_-_}
 use mathlib.Core.Path.{sym, _∙_}
 use denote.Ref.{now}
 use Rattle.geometry.specs.Lent.{lent, head-lent, head-least}
-use Rattle.format.specs.Formatting.{Formatting, firstPageWritten, format-begins, format-goes-on, format-ends, start-at, start-inside}
+use Rattle.format.specs.Formatting.{Formatting, firstPageWritten, format-begins, format-goes-on, format-ends, start-inside}
 use borrow.Author.Needs.{needs}
 use native.Mathlib.Omega.{arith}
 use Rattle.format.proofs.format_store.Statement.{statement}
@@ -19,7 +20,7 @@ write-head-requires : tie.Need-write-head-requires Inv-loop μ-loop
 write-head-requires c κs =
     let a = c .before .before .args in
     let lends = c .before .before .pre in
-    (lends .in-range, omega (arith, head-lent (a .g) (a .t3) (now (a .store)) lends, head-least (a .g) (a .t3) (now (a .store)) lends))
+    (lends .in-range, omega (arith, head-lent (a .g) (a .plan) (now (a .store)) lends, head-least (a .g) (a .plan) (now (a .store)) lends))
 
 loop-holds : tie.Need-loop-holds Inv-loop μ-loop
 loop-holds c =
@@ -27,28 +28,26 @@ loop-holds c =
     let lends = c .before .before .before .before .before .pre in
     rw (c .before .before .write-head .ensures) (format-begins (a .g) (lends .in-range) (now (a .store)) (lends .exact))
 
-cast-start : tie.Need-cast-start Inv-loop μ-loop
-cast-start c = search needs
+level-place-requires : tie.Need-level-place-requires Inv-loop μ-loop
+level-place-requires c κs =
+    let a = c .before .before .before .before .before .before .before .before .before .args in
+    let lends = c .before .before .before .before .before .before .before .before .before .pre in
+    let l = c .before .before .before .loop in
+    (lent (a .g) (a .plan) (l .store) (lends .in-range) (lends .planned) (l .inv .whole), (l .inv .some, omega (arith, c .before .if1 .taken, lends .in-range .levels-most)))
 
-mul-start : tie.Need-mul-start Inv-loop μ-loop
-mul-start c = search needs
-
-element-copy-out-start : tie.Need-element-copy-out-start Inv-loop μ-loop
-element-copy-out-start c = search needs
-
-cast-start-2 : tie.Need-cast-start-2 Inv-loop μ-loop
-cast-start-2 c = search needs
+cast-write-first-page : tie.Need-cast-write-first-page Inv-loop μ-loop
+cast-write-first-page c = search needs
 
 add-write-first-page : tie.Need-add-write-first-page Inv-loop μ-loop
 add-write-first-page c = search needs
 
 write-first-page-requires : tie.Need-write-first-page-requires Inv-loop μ-loop
 write-first-page-requires c κs =
-    let a = c .before .before .before .before .before .before .before .before .before .before .before .args in
-    let lends = c .before .before .before .before .before .before .before .before .before .before .before .pre in
-    let l = c .before .before .before .before .before .loop in
-    start-inside (a .g) (a .t3) (l .store) (lent (a .g) (a .t3) (l .store) (lends .in-range) (lends .planned) (l .inv .whole)) (l .level) (l .inv .some)
-    (c .before .before .before .if1 .taken)
+    let a = c .before .before .before .before .before .before .before .before .before .before .before .before .before .args in
+    let lends = c .before .before .before .before .before .before .before .before .before .before .before .before .before .pre in
+    let l = c .before .before .before .before .before .before .before .loop in
+    start-inside (a .g) (a .plan) (l .store) (lent (a .g) (a .plan) (l .store) (lends .in-range) (lends .planned) (l .inv .whole)) (l .level) (l .inv .some)
+    (c .before .before .before .before .before .if1 .taken) (c .before .before .before .level-place .ensures)
 
 add-level : tie.Need-add-level Inv-loop μ-loop
 add-level c = search needs
@@ -59,12 +58,11 @@ loop-less c = search needs
 loop-again : tie.Need-loop-again Inv-loop μ-loop
 unfolding firstPageWritten
 loop-again c =
-    let a = c .before .before .before .before .before .before .before .before .before .before .before .before .before .before .args in
-    let lends = c .before .before .before .before .before .before .before .before .before .before .before .before .before .before .pre in
-    let l = c .before .before .before .before .before .before .before .before .loop in
-    let there = c .before .before .before .before .before .before .if1 .taken in
-    rw (c .before .before .write-first-page .ensures, start-at (a .g) (a .t3) (now (a .store)) lends (l .level) (l .inv .some) there)
-    (format-goes-on (a .g) (lends .in-range) (l .store) (l .level) there (l .inv))
+    let a = c .before .before .before .before .before .before .before .before .before .before .before .before .before .before .before .before .args in
+    let lends = c .before .before .before .before .before .before .before .before .before .before .before .before .before .before .before .before .pre in
+    let l = c .before .before .before .before .before .before .before .before .before .before .loop in
+    let there = c .before .before .before .before .before .before .before .before .if1 .taken in
+    rw (c .before .before .write-first-page .ensures, c .before .before .before .before .before .before .level-place .ensures, place-start (a .g) (l .store) (l .level)) (format-goes-on (a .g) (lends .in-range) (l .store) (l .level) there (l .inv))
 
 same-length : tie.Need-same-length Inv-loop μ-loop
 same-length c = c .before .before .loop .inv .whole ∙ sym (c .before .before .before .before .before .before .before .before .pre .exact)
@@ -72,8 +70,7 @@ same-length c = c .before .before .loop .inv .whole ∙ sym (c .before .before .
 returns : tie.Need-returns Inv-loop μ-loop
 returns c =
     let l = c .before .before .loop in
-    let entered = c .before .before .before .before .before .before .before .before in
-    format-ends (entered .args .g) (entered .pre .in-range) (l .store) (l .level) (omega arith) (l .inv)
+    format-ends (c .before .before .before .before .before .before .before .before .args .g) (c .before .before .before .before .before .before .before .before .pre .in-range) (l .store) (l .level) (omega arith) (l .inv)
 
 pub format-store-spec : {M : Type 1} → statement M
 format-store-spec =
@@ -83,10 +80,8 @@ format-store-spec =
     μ-loop
     write-head-requires
     loop-holds
-    cast-start
-    mul-start
-    element-copy-out-start
-    cast-start-2
+    level-place-requires
+    cast-write-first-page
     add-write-first-page
     write-first-page-requires
     add-level

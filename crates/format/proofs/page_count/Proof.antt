@@ -8,14 +8,16 @@ use Rattle.format.proofs.page_count.Tie as tie
 
 returns : tie.Need-returns
 returns c =
-    let g = c .before .before .args .g in
-    let i = c .before .before .args .level in
+    let a = c .before .before .args in
+    let g = a .g in
+    let i = a .level in
     sym (page-count g (emptySlots g) i (c .if1 .taken) ∙ row-one-page g (c .before .before .pre) i (c .if1 .taken))
 
 returns-2 : tie.Need-returns-2
 returns-2 c =
-    let g = c .before .before .args .g in
-    let i = c .before .before .args .level in
+    let a = c .before .before .args in
+    let g = a .g in
+    let i = a .level in
     sym (no-page-count g (emptySlots g) i (omega arith))
 
 pub page-count-spec : {M : Type 1} → statement M

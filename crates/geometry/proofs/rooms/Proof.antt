@@ -35,25 +35,33 @@ array-read-room-of-2 c = search needs
 
 room-of-requires-2 : tie.Need-room-of-requires-2
 room-of-requires-2 c κs =
-    let third = room-three (c .before .before .args .g) (c .before .before .pre) (c .before .capacities .result) (c .before .capacities .ensures .0) _ (c .room-of .ensures) in
-    omega (arith, third, room-small (c .before .before .args .g) (c .before .before .pre) 3)
+    let a = c .before .before .args in
+    let pre = c .before .before .pre in
+    let third = room-three (a .g) pre (c .before .capacities .result) (c .before .capacities .ensures .0) _ (c .room-of .ensures) in
+    omega (arith, third, room-small (a .g) pre 3)
 
 array-read-room-of-3 : tie.Need-array-read-room-of-3
 array-read-room-of-3 c = search needs
 
 room-of-requires-3 : tie.Need-room-of-requires-3
 room-of-requires-3 c κs =
-    let third = room-three (c .before .before .before .args .g) (c .before .before .before .pre) (c .before .before .capacities .result) (c .before .before .capacities .ensures .0) _ (c .before .room-of .ensures) in
-    let second = room-two (c .before .before .before .args .g) (c .before .before .before .pre) (c .before .before .capacities .result) (c .before .before .capacities .ensures .0) _ _ third (c .room-of2 .ensures) in
-    omega (arith, second, room-small (c .before .before .before .args .g) (c .before .before .before .pre) 2)
+    let a = c .before .before .before .args in
+    let pre = c .before .before .before .pre in
+    let capacities = c .before .before .capacities in
+    let third = room-three (a .g) pre (capacities .result) (capacities .ensures .0) _ (c .before .room-of .ensures) in
+    let second = room-two (a .g) pre (capacities .result) (capacities .ensures .0) _ _ third (c .room-of2 .ensures) in
+    omega (arith, second, room-small (a .g) pre 2)
 
 returns : tie.Need-returns
 unfolding rooms
 returns c =
-    let third = room-three (c .before .before .before .before .args .g) (c .before .before .before .before .pre) (c .before .before .before .capacities .result) (c .before .before .before .capacities .ensures .0) _ (c .before .before .room-of .ensures) in
-    let second = room-two (c .before .before .before .before .args .g) (c .before .before .before .before .pre) (c .before .before .before .capacities .result) (c .before .before .before .capacities .ensures .0) _ _ third (c .before .room-of2 .ensures) in
-    let first = room-one (c .before .before .before .before .args .g) (c .before .before .before .before .pre) (c .before .before .before .capacities .result) (c .before .before .before .capacities .ensures .0) _ _ second (c .room-of3 .ensures) in
-    rooms-told (c .before .before .before .before .args .g) (c .before .before .before .before .pre) (rw (room-zero (c .before .before .before .before .args .g), ← third, ← second, ← first))
+    let a = c .before .before .before .before .args in
+    let pre = c .before .before .before .before .pre in
+    let capacities = c .before .before .before .capacities in
+    let third = room-three (a .g) pre (capacities .result) (capacities .ensures .0) _ (c .before .before .room-of .ensures) in
+    let second = room-two (a .g) pre (capacities .result) (capacities .ensures .0) _ _ third (c .before .room-of2 .ensures) in
+    let first = room-one (a .g) pre (capacities .result) (capacities .ensures .0) _ _ second (c .room-of3 .ensures) in
+    rooms-told (a .g) pre (rw (room-zero (a .g), ← third, ← second, ← first))
 
 pub rooms-spec : {M : Type 1} → statement M
 rooms-spec =

@@ -4,10 +4,14 @@ use Rattle.kinds.proofs.agree.Statement.{statement}
 use Rattle.kinds.proofs.agree.Tie as tie
 
 returns : tie.Need-returns
-returns c = agree-true (c .before .args .a) (c .before .args .b) (c .if1 .taken)
+returns c =
+    let a = c .before .args in
+    agree-true (a .a) (a .b) (c .if1 .taken)
 
 returns-2 : tie.Need-returns-2
-returns-2 c = agree-false (c .before .args .a) (c .before .args .b) (c .if1 .left)
+returns-2 c =
+    let a = c .before .args in
+    agree-false (a .a) (a .b) (c .if1 .left)
 
 pub agree-spec : {M : Type 1} → statement M
 agree-spec = tie.close (tie.spec returns returns-2)

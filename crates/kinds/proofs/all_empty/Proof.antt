@@ -18,7 +18,9 @@ is-empty-requires-4 : tie.Need-is-empty-requires-4
 is-empty-requires-4 c κs = search needs
 
 returns : tie.Need-returns
-returns c = all-none (now (c .before .before .before .before .before .before .before .before .before .args .words)) (c .before .before .before .before .before .before .before .before .before .args .runs) _ _ _ _ (c .before .before .before .before .before .before .is-empty .ensures) (c .before .before .before .before .is-empty2 .ensures) (c .before .before .is-empty3 .ensures) (c .is-empty4 .ensures)
+returns c =
+    let a = c .before .before .before .before .before .before .before .before .before .args in
+    all-none (now (a .words)) (a .runs) _ _ _ _ (c .before .before .before .before .before .before .is-empty .ensures) (c .before .before .before .before .is-empty2 .ensures) (c .before .before .is-empty3 .ensures) (c .is-empty4 .ensures)
 
 pub all-empty-spec : {M : Type 1} → statement M
 all-empty-spec =

@@ -20,7 +20,9 @@ told-at-requires-4 c κs = search needs
 
 returns : tie.Need-returns
 unfolding heldFirst upcomings
-returns c = c .told-at4 .ensures ∙ ap (decides (c .before .before .before .before .before .before .before .before .before .args .pair) _) (c .before .before .told-at3 .ensures ∙ ap (decides (c .before .before .before .before .before .before .before .before .before .args .pair) _) (c .before .before .before .before .told-at2 .ensures ∙ ap (decides (c .before .before .before .before .before .before .before .before .before .args .pair) _) (c .before .before .before .before .before .before .told-at .ensures)))
+returns c =
+    let a = c .before .before .before .before .before .before .before .before .before .args in
+    c .told-at4 .ensures ∙ ap (decides (a .pair) _) (c .before .before .told-at3 .ensures ∙ ap (decides (a .pair) _) (c .before .before .before .before .told-at2 .ensures ∙ ap (decides (a .pair) _) (c .before .before .before .before .before .before .told-at .ensures)))
 
 pub held-at-spec : {M : Type 1} → statement M
 held-at-spec =

@@ -17,9 +17,10 @@ is-ended-requires c κs = search needs
 
 returns : tie.Need-returns
 returns c =
+    let a = c .before .before .before .before .args in
     λ t.
-    sym (from-first (now (c .before .before .before .before .args .words)) (c .before .before .before .before .args .run) (c .before .skip-to .result) _ (c .before .before .least-pair .ensures) (c .before .skip-to .ensures .0)) ∙
-    none-left (now (c .before .before .before .before .args .words)) (c .before .before .before .before .args .run) (c .before .skip-to .result) _ (c .is-ended .ensures) t
+    sym (from-first (now (a .words)) (a .run) (c .before .skip-to .result) _ (c .before .before .least-pair .ensures) (c .before .skip-to .ensures .0)) ∙
+    none-left (now (a .words)) (a .run) (c .before .skip-to .result) _ (c .is-ended .ensures) t
 
 pub is-empty-spec : {M : Type 1} → statement M
 is-empty-spec = tie.close (tie.spec least-pair-requires skip-to-requires is-ended-requires returns)

@@ -29,8 +29,9 @@ skip-to-requires c κs = search needs
 
 loop-holds : tie.Need-loop-holds Inv-loop μ-loop
 loop-holds c =
-    let w = now (c .before .before .before .args .words) in
-    (rw (from-first w (c .before .before .before .args .top) (c .skip-to .result) _ (c .before .least-pair .ensures) (c .skip-to .ensures .0), upcomings-all w (c .before .before .before .args .lower) _ refl) (stands-begin _ _ (c .before .before .before .pre .1 .1)), c .skip-to .ensures .1)
+    let a = c .before .before .before .args in
+    let w = now (a .words) in
+    (rw (from-first w (a .top) (c .skip-to .result) _ (c .before .least-pair .ensures) (c .skip-to .ensures .0), upcomings-all w (a .lower) _ refl) (stands-begin _ _ (c .before .before .before .pre .1 .1)), c .skip-to .ensures .1)
 
 is-ended-requires : tie.Need-is-ended-requires Inv-loop μ-loop
 is-ended-requires c κs = search needs
@@ -48,7 +49,12 @@ agree-requires : tie.Need-agree-requires Inv-loop μ-loop
 agree-requires c κs = search needs
 
 returns : tie.Need-returns Inv-loop μ-loop
-returns c = wrong-here (now (c .before .before .before .before .before .before .before .before .before .before .before .before .args .words)) (c .before .before .before .before .before .before .before .before .before .before .before .before .args .top) (c .before .before .before .before .before .before .before .before .before .before .before .before .args .lower) (c .before .before .before .before .before .before .before .before .loop .spot) (c .before .before .before .before .before .before .before .before .loop .spots) (c .before .before .before .spots-from .result) (c .before .before .before .before .before .entry-at .result) _ (c .before .before .before .before .before .before .before .before .loop .inv .0) (c .before .before .before .before .before .entry-at .ensures .0) (c .before .before .before .spots-from .ensures .0) _ _ (c .before .before .held-at .ensures) (c .before .agree .ensures) (c .if2 .taken)
+returns c =
+    let a = c .before .before .before .before .before .before .before .before .before .before .before .before .args in
+    let loop = c .before .before .before .before .before .before .before .before .loop in
+    let entry-at = c .before .before .before .before .before .entry-at in
+    let spots-from = c .before .before .before .spots-from in
+    wrong-here (now (a .words)) (a .top) (a .lower) (loop .spot) (loop .spots) (spots-from .result) (entry-at .result) _ (loop .inv .0) (entry-at .ensures .0) (spots-from .ensures .0) _ _ (c .before .before .held-at .ensures) (c .before .agree .ensures) (c .if2 .taken)
 
 add-skip-to : tie.Need-add-skip-to Inv-loop μ-loop
 add-skip-to c = search needs
@@ -57,16 +63,28 @@ skip-to-requires-2 : tie.Need-skip-to-requires-2 Inv-loop μ-loop
 skip-to-requires-2 c κs = search needs
 
 loop-less : tie.Need-loop-less Inv-loop μ-loop
-loop-less c = fewer-on (now (c .before .before .before .before .before .before .before .before .before .before .before .before .before .args .words)) (c .before .before .before .before .before .before .before .before .before .before .before .before .before .args .top) (c .before .before .before .before .before .before .before .before .before .before .before .before .before .args .lower) (c .before .before .before .before .before .before .before .before .before .loop .spot) (c .before .before .before .before .before .before .before .before .before .loop .spots) (c .before .before .before .before .spots-from .result) (c .before .before .before .before .before .before .entry-at .result) _ (c .before .before .before .before .before .before .before .before .before .loop .inv .0) (c .before .before .before .before .before .before .entry-at .ensures .0) (c .before .before .before .before .spots-from .ensures .0) (c .skip-to2 .result) _ (c .before .before .before .before .before .before .before .before .before .before .before .least-pair .ensures) (c .skip-to2 .ensures .0)
+loop-less c =
+    let a = c .before .before .before .before .before .before .before .before .before .before .before .before .before .args in
+    let loop = c .before .before .before .before .before .before .before .before .before .loop in
+    let entry-at = c .before .before .before .before .before .before .entry-at in
+    let spots-from = c .before .before .before .before .spots-from in
+    fewer-on (now (a .words)) (a .top) (a .lower) (loop .spot) (loop .spots) (spots-from .result) (entry-at .result) _ (loop .inv .0) (entry-at .ensures .0) (spots-from .ensures .0) (c .skip-to2 .result) _ (c .before .before .before .before .before .before .before .before .before .before .before .least-pair .ensures) (c .skip-to2 .ensures .0)
 
 loop-again : tie.Need-loop-again Inv-loop μ-loop
-loop-again c = (
-  right-here (now (c .before .before .before .before .before .before .before .before .before .before .before .before .before .args .words)) (c .before .before .before .before .before .before .before .before .before .before .before .before .before .args .top) (c .before .before .before .before .before .before .before .before .before .before .before .before .before .args .lower) (c .before .before .before .before .before .before .before .before .before .loop .spot) (c .before .before .before .before .before .before .before .before .before .loop .spots) (c .before .before .before .before .spots-from .result) (c .before .before .before .before .before .before .entry-at .result) _ (c .before .before .before .before .before .before .before .before .before .loop .inv .0) (c .before .before .before .before .before .before .entry-at .ensures .0) (c .before .before .before .before .spots-from .ensures .0) (c .skip-to2 .result) _ (c .before .before .before .before .before .before .before .before .before .before .before .least-pair .ensures) (c .skip-to2 .ensures .0) _ _ (c .before .before .before .held-at .ensures) (c .before .before .agree .ensures) (c .before .if2 .left),
-  c .skip-to2 .ensures .1,
-)
+loop-again c =
+    let a = c .before .before .before .before .before .before .before .before .before .before .before .before .before .args in
+    let loop = c .before .before .before .before .before .before .before .before .before .loop in
+    let entry-at = c .before .before .before .before .before .before .entry-at in
+    let spots-from = c .before .before .before .before .spots-from in (
+      right-here (now (a .words)) (a .top) (a .lower) (loop .spot) (loop .spots) (spots-from .result) (entry-at .result) _ (loop .inv .0) (entry-at .ensures .0) (spots-from .ensures .0) (c .skip-to2 .result) _ (c .before .before .before .before .before .before .before .before .before .before .before .least-pair .ensures) (c .skip-to2 .ensures .0) _ _ (c .before .before .before .held-at .ensures) (c .before .before .agree .ensures) (c .before .if2 .left),
+      c .skip-to2 .ensures .1,
+    )
 
 returns-2 : tie.Need-returns-2 Inv-loop μ-loop
-returns-2 c = stands-done _ _ (rw (none-left (now (c .before .before .before .before .before .before .args .words)) (c .before .before .before .before .before .before .args .top) (c .before .before .loop .spot) _ (c .before .is-ended .ensures) (not-false _ (c .if1 .left))) at (c .before .before .loop .inv .0))
+returns-2 c =
+    let a = c .before .before .before .before .before .before .args in
+    let loop = c .before .before .loop in
+    stands-done _ _ (rw (none-left (now (a .words)) (a .top) (loop .spot) _ (c .before .is-ended .ensures) (not-false _ (c .if1 .left))) at (loop .inv .0))
 
 pub stands-over-spec : {M : Type 1} → statement M
 stands-over-spec =

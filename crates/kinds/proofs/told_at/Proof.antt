@@ -13,19 +13,29 @@ is-ended-requires : tie.Need-is-ended-requires
 is-ended-requires c κs = search needs
 
 returns : tie.Need-returns
-returns c = told-none (now (c .before .before .before .args .words)) (c .before .before .before .args .run) (c .before .before .before .args .spot) (c .before .before .before .args .pair) (c .before .before .before .args .below) (none-left (now (c .before .before .before .args .words)) (c .before .before .before .args .run) (c .before .before .before .args .spot) _ (c .before .is-ended .ensures) (c .if1 .taken))
+returns c =
+    let a = c .before .before .before .args in
+    told-none (now (a .words)) (a .run) (a .spot) (a .pair) (a .below) (none-left (now (a .words)) (a .run) (a .spot) _ (c .before .is-ended .ensures) (c .if1 .taken))
 
 entry-at-requires : tie.Need-entry-at-requires
-entry-at-requires c κs = (c .before .before .before .pre .0, (c .before .before .before .pre .1, leb-false _ _ (sym (c .before .is-ended .ensures) ∙ c .if1 .left)))
+entry-at-requires c κs =
+    let pre = c .before .before .before .pre in
+    (pre .0, (pre .1, leb-false _ _ (sym (c .before .is-ended .ensures) ∙ c .if1 .left)))
 
 same-pair-requires : tie.Need-same-pair-requires
 same-pair-requires c κs = search needs
 
 returns-2 : tie.Need-returns-2
-returns-2 c = told-same (now (c .before .before .before .before .before .before .before .args .words)) (c .before .before .before .before .before .before .before .args .run) (c .before .before .before .before .before .before .before .args .spot) (c .before .before .before .before .before .before .before .args .pair) (c .before .before .before .before .before .before .before .args .below) (c .before .before .before .entry-at .result) (c .before .before .before .entry-at .ensures .0) (told-yes _ _ (c .before .same-pair .ensures) (c .if2 .taken))
+returns-2 c =
+    let a = c .before .before .before .before .before .before .before .args in
+    let entry-at = c .before .before .before .entry-at in
+    told-same (now (a .words)) (a .run) (a .spot) (a .pair) (a .below) (entry-at .result) (entry-at .ensures .0) (told-yes _ _ (c .before .same-pair .ensures) (c .if2 .taken))
 
 returns-3 : tie.Need-returns-3
-returns-3 c = told-other (now (c .before .before .before .before .before .before .before .args .words)) (c .before .before .before .before .before .before .before .args .run) (c .before .before .before .before .before .before .before .args .spot) (c .before .before .before .before .before .before .before .args .pair) (c .before .before .before .before .before .before .before .args .below) (c .before .before .before .entry-at .result) (c .before .before .before .entry-at .ensures .0) (sym (c .before .same-pair .ensures) ∙ c .if2 .left)
+returns-3 c =
+    let a = c .before .before .before .before .before .before .before .args in
+    let entry-at = c .before .before .before .entry-at in
+    told-other (now (a .words)) (a .run) (a .spot) (a .pair) (a .below) (entry-at .result) (entry-at .ensures .0) (sym (c .before .same-pair .ensures) ∙ c .if2 .left)
 
 pub told-at-spec : {M : Type 1} → statement M
 told-at-spec =

@@ -12,17 +12,24 @@ below-requires c κs = search needs
 all-empty-requires : tie.Need-all-empty-requires
 all-empty-requires c κs = rw (c .below .ensures) (below-inside (c .before .before .before .args .runs) _ (c .before .before .before .pre .0))
 
-tally-run-requires : tie.Need-tally-run-requires
-tally-run-requires c κs = search needs
+count-run-requires : tie.Need-count-run-requires
+count-run-requires c κs = search needs
 
 returns : tie.Need-returns
-returns c = top-alone (now (c .before .before .before .before .before .before .before .args .words)) (c .before .before .before .before .before .before .before .args .runs) (c .before .tally-run .result) (rw (c .before .before .before .before .below .ensures) at (c .before .before .before .all-empty .ensures (c .before .before .if1 .taken))) (c .before .tally-run .ensures .0)
+returns c =
+    let a = c .before .before .before .before .before .before .before .args in
+    top-alone (now (a .words)) (a .runs) (c .before .count-run .result) (rw (c .before .before .before .before .below .ensures) at (c .before .before .before .all-empty .ensures (c .before .before .if1 .taken))) (c .before .count-run .ensures .0)
 
 stands-over-requires : tie.Need-stands-over-requires
-stands-over-requires c κs = rw (c .before .before .below .ensures) (c .before .before .before .before .before .pre .0 .head, (below-inside (c .before .before .before .before .before .args .runs) _ (c .before .before .before .before .before .pre .0), top-ascends (now (c .before .before .before .before .before .args .words)) (c .before .before .before .before .before .args .runs) (c .before .before .before .before .before .pre .1)))
+stands-over-requires c κs =
+    let a = c .before .before .before .before .before .args in
+    let pre = c .before .before .before .before .before .pre in
+    rw (c .before .before .below .ensures) (pre .0 .head, (below-inside (a .runs) _ (pre .0), top-ascends (now (a .words)) (a .runs) (pre .1)))
 
 returns-2 : tie.Need-returns-2
-returns-2 c = c .stands-over .ensures ∙ rw (c .before .before .before .below .ensures) (top-stands (now (c .before .before .before .before .before .before .args .words)) (c .before .before .before .before .before .before .args .runs))
+returns-2 c =
+    let a = c .before .before .before .before .before .before .args in
+    c .stands-over .ensures ∙ rw (c .before .before .before .below .ensures) (top-stands (now (a .words)) (a .runs))
 
 pub top-stands-spec : {M : Type 1} → statement M
 top-stands-spec =
@@ -30,7 +37,7 @@ top-stands-spec =
     (tie.spec
     below-requires
     all-empty-requires
-    tally-run-requires
+    count-run-requires
     returns
     stands-over-requires
     returns-2)

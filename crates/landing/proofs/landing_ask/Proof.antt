@@ -1,4 +1,4 @@
--- `landing_ask` tells what `index::ask` answers. Assumes nothing.
+-- `landing_ask` gives the reply to what `index::ask` answers. Assumes nothing.
 use mathlib.Core.Path.{_∙_}
 use borrow.Author.Needs.{needs}
 use Rattle.landing.proofs.landing_ask.Statement.{statement}
@@ -10,11 +10,11 @@ pair-of-requires c κs = search needs
 ask-requires : tie.Need-ask-requires
 ask-requires c κs = search needs
 
-tell-asked-requires : tie.Need-tell-asked-requires
-tell-asked-requires c κs = search needs
+ask-reply-requires : tie.Need-ask-reply-requires
+ask-reply-requires c κs = search needs
 
 returns : tie.Need-returns
-returns c = c .tell-asked .ensures ∙ rw (c .before .before .before .pair-of .ensures) at (c .before .before .ask .ensures)
+returns c = c .before .ask-reply .ensures ∙ rw (c .before .before .before .pair-of .ensures) at (c .before .before .ask .ensures)
 
 pub landing-ask-spec : {M : Type 1} → statement M
-landing-ask-spec = tie.close (tie.spec pair-of-requires ask-requires tell-asked-requires returns)
+landing-ask-spec = tie.close (tie.spec pair-of-requires ask-requires ask-reply-requires returns)

@@ -1,5 +1,6 @@
--- `landing_drop` tells what `index::drop` answers, and the words that it leaves. Assumes nothing.
+-- `landing_drop` gives the reply to what `index::drop` answers, and the words that it leaves. Assumes nothing.
 use mathlib.Core.Path.{_∙_}
+use Rattle.landing.specs.Numbers.{beside-both}
 use borrow.Author.Needs.{needs}
 use Rattle.landing.proofs.landing_drop.Statement.{statement}
 use Rattle.landing.proofs.landing_drop.Tie as tie
@@ -10,8 +11,8 @@ pair-of-requires c κs = search needs
 drop-requires : tie.Need-drop-requires
 drop-requires c κs = search needs
 
-tell-changed-requires : tie.Need-tell-changed-requires
-tell-changed-requires c κs = search needs
+edit-reply-requires : tie.Need-edit-reply-requires
+edit-reply-requires c κs = search needs
 
 same-length : tie.Need-same-length
 same-length c = search needs
@@ -20,15 +21,11 @@ same-length-2 : tie.Need-same-length-2
 same-length-2 c = search needs
 
 returns : tie.Need-returns
-returns c = c .tell-changed .ensures (c .before .before .before .before .before .before .drop .last .0) (c .before .before .before .before .before .before .drop .last .1 .0) ∙ rw (c .before .before .before .before .before .before .before .pair-of .ensures) at (c .before .before .before .before .before .before .drop .ensures)
+returns c =
+    let made = c .before .before .before .before .before .before in
+    beside-both (made .drop .last .0) (made .drop .last .1 .0) (c .before .edit-reply .ensures) ∙ rw (made .before .pair-of .ensures) at (made .drop .ensures)
 
 pub landing-drop-spec : {M : Type 1} → statement M
 landing-drop-spec =
     tie.close
-    (tie.spec
-    pair-of-requires
-    drop-requires
-    tell-changed-requires
-    same-length
-    same-length-2
-    returns)
+    (tie.spec pair-of-requires drop-requires edit-reply-requires same-length same-length-2 returns)

@@ -12,16 +12,22 @@ comes-before-requires : tie.Need-comes-before-requires
 comes-before-requires c κs = search needs
 
 returns : tie.Need-returns
-returns c = lesser-is (entry (c .before .before .before .before .args .above)) (entry (c .before .before .before .before .args .below)) true _ (told-yes _ _ (c .before .comes-before .ensures) (c .if1 .taken)) refl
+returns c =
+    let a = c .before .before .before .before .args in
+    lesser-is (entry (a .above)) (entry (a .below)) true _ (told-yes _ _ (c .before .comes-before .ensures) (c .if1 .taken)) refl
 
 same-pair-requires : tie.Need-same-pair-requires
 same-pair-requires c κs = search needs
 
 returns-2 : tie.Need-returns-2
-returns-2 c = lesser-is (entry (c .before .before .before .before .before .before .args .above)) (entry (c .before .before .before .before .before .before .args .below)) false true (sym (c .before .before .before .comes-before .ensures) ∙ c .before .before .if1 .left) (told-yes _ _ (c .before .same-pair .ensures) (c .if2 .taken))
+returns-2 c =
+    let a = c .before .before .before .before .before .before .args in
+    lesser-is (entry (a .above)) (entry (a .below)) false true (sym (c .before .before .before .comes-before .ensures) ∙ c .before .before .if1 .left) (told-yes _ _ (c .before .same-pair .ensures) (c .if2 .taken))
 
 returns-3 : tie.Need-returns-3
-returns-3 c = lesser-is (entry (c .before .before .before .before .before .before .args .above)) (entry (c .before .before .before .before .before .before .args .below)) false false (sym (c .before .before .before .comes-before .ensures) ∙ c .before .before .if1 .left) (sym (c .before .same-pair .ensures) ∙ c .if2 .left)
+returns-3 c =
+    let a = c .before .before .before .before .before .before .args in
+    lesser-is (entry (a .above)) (entry (a .below)) false false (sym (c .before .before .before .comes-before .ensures) ∙ c .before .before .if1 .left) (sym (c .before .same-pair .ensures) ∙ c .if2 .left)
 
 pub lesser-spec : {M : Type 1} → statement M
 lesser-spec =

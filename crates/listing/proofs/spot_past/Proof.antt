@@ -12,10 +12,14 @@ is-ended-requires : tie.Need-is-ended-requires
 is-ended-requires c κs = search needs
 
 returns : tie.Need-returns
-returns c = (past-none (now (c .before .before .before .args .words)) (c .before .before .before .args .run) (c .before .before .before .args .spot) _ (c .before .is-ended .ensures) (c .if1 .taken) (c .before .before .before .args .pair), c .before .before .before .pre .1)
+returns c =
+    let a = c .before .before .before .args in
+    (past-none (now (a .words)) (a .run) (a .spot) _ (c .before .is-ended .ensures) (c .if1 .taken) (a .pair), c .before .before .before .pre .1)
 
 entry-at-requires : tie.Need-entry-at-requires
-entry-at-requires c κs = (c .before .before .before .pre .0, (c .before .before .before .pre .1, leb-false _ _ (sym (c .before .is-ended .ensures) ∙ c .if1 .left)))
+entry-at-requires c κs =
+    let pre = c .before .before .before .pre in
+    (pre .0, (pre .1, leb-false _ _ (sym (c .before .is-ended .ensures) ∙ c .if1 .left)))
 
 same-pair-requires : tie.Need-same-pair-requires
 same-pair-requires c κs = search needs
@@ -30,13 +34,18 @@ skip-to-requires : tie.Need-skip-to-requires
 skip-to-requires c κs = search needs
 
 returns-2 : tie.Need-returns-2
-returns-2 c = (
-  past-same (now (c .before .before .before .before .before .before .before .before .before .args .words)) (c .before .before .before .before .before .before .before .before .before .args .run) (c .before .before .before .before .before .before .before .before .before .args .spot) (c .before .before .before .before .before .entry-at .result) (c .before .before .before .before .before .entry-at .ensures .0) (c .before .before .before .before .before .before .before .before .before .args .pair) _ _ (told-yes _ _ (c .before .before .before .same-pair .ensures) (c .before .before .if2 .taken)) (c .before .least-pair .ensures) (c .skip-to .ensures .0),
-  c .skip-to .ensures .1,
-)
+returns-2 c =
+    let a = c .before .before .before .before .before .before .before .before .before .args in
+    let entry-at = c .before .before .before .before .before .entry-at in (
+      past-same (now (a .words)) (a .run) (a .spot) (entry-at .result) (entry-at .ensures .0) (a .pair) _ _ (told-yes _ _ (c .before .before .before .same-pair .ensures) (c .before .before .if2 .taken)) (c .before .least-pair .ensures) (c .skip-to .ensures .0),
+      c .skip-to .ensures .1,
+    )
 
 returns-3 : tie.Need-returns-3
-returns-3 c = (past-stays (now (c .before .before .before .before .before .before .before .args .words)) (c .before .before .before .before .before .before .before .args .run) (c .before .before .before .before .before .before .before .args .spot) (c .before .before .before .entry-at .result) (c .before .before .before .entry-at .ensures .0) (c .before .before .before .before .before .before .before .args .pair) (sym (c .before .same-pair .ensures) ∙ c .if2 .left), c .before .before .before .before .before .before .before .pre .1)
+returns-3 c =
+    let a = c .before .before .before .before .before .before .before .args in
+    let entry-at = c .before .before .before .entry-at in
+    (past-stays (now (a .words)) (a .run) (a .spot) (entry-at .result) (entry-at .ensures .0) (a .pair) (sym (c .before .same-pair .ensures) ∙ c .if2 .left), c .before .before .before .before .before .before .before .pre .1)
 
 pub spot-past-spec : {M : Type 1} → statement M
 spot-past-spec =

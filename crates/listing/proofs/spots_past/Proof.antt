@@ -19,10 +19,13 @@ spot-past-requires-4 c κs = search needs
 
 returns : tie.Need-returns
 unfolding upcomings pastAll
-returns c = (
-  rw (c .before .before .before .before .before .before .spot-past .ensures .0, c .before .before .before .before .spot-past2 .ensures .0, c .before .before .spot-past3 .ensures .0, c .spot-past4 .ensures .0),
-  record { head = c .before .before .before .before .before .before .spot-past .ensures .1; first = c .before .before .before .before .spot-past2 .ensures .1; second = c .before .before .spot-past3 .ensures .1; third = c .spot-past4 .ensures .1 },
-)
+returns c =
+    let spot-past = c .before .before .before .before .before .before .spot-past in
+    let spot-past2 = c .before .before .before .before .spot-past2 in
+    let spot-past3 = c .before .before .spot-past3 in (
+      rw (spot-past .ensures .0, spot-past2 .ensures .0, spot-past3 .ensures .0, c .spot-past4 .ensures .0),
+      record { head = spot-past .ensures .1; first = spot-past2 .ensures .1; second = spot-past3 .ensures .1; third = c .spot-past4 .ensures .1 },
+    )
 
 pub spots-past-spec : {M : Type 1} → statement M
 spots-past-spec =

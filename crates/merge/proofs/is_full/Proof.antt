@@ -15,25 +15,37 @@ add-if1 : tie.Need-add-if1
 add-if1 c = search needs
 
 returns : tie.Need-returns
-returns c = rw (le-ltb (suc (c .before .before .before .args .level)) (c .before .before .before .args .g .levels) (omega (arith, c .if1 .taken)))
+returns c =
+    let a = c .before .before .before .args in
+    rw (le-ltb (suc (a .level)) (a .g .levels) (omega (arith, c .if1 .taken)))
 
 plan-for-requires : tie.Need-plan-for-requires
 plan-for-requires c κs = c .before .before .before .pre .0 .in-range
 
 at-level-requires : tie.Need-at-level-requires
-at-level-requires c κs = omega (arith, c .before .before .before .before .before .pre .0 .in-range .levels-most, c .before .before .before .before .before .pre .1 .1)
+at-level-requires c κs =
+    let pre = c .before .before .before .before .before .pre in
+    omega (arith, pre .0 .in-range .levels-most, pre .1 .1)
 
 run-at-requires : tie.Need-run-at-requires
-run-at-requires c κs = ((lent (c .before .before .before .before .before .before .args .g) _ (now (c .before .before .before .before .before .before .args .store)) (c .before .before .before .before .before .before .pre .0 .in-range) (c .before .before .plan-for .ensures .0) (c .before .before .before .before .before .before .pre .0 .exact)), c .before .before .before .before .before .before .pre .1 .1)
+run-at-requires c κs =
+    let a = c .before .before .before .before .before .before .args in
+    let pre = c .before .before .before .before .before .before .pre in
+    ((lent (a .g) _ (now (a .store)) (pre .0 .in-range) (c .before .before .plan-for .ensures .0) (pre .0 .exact)), pre .1 .1)
 
 count-entries-requires : tie.Need-count-entries-requires
-count-entries-requires c κs = rw (c .run-at .ensures) (run-inside (c .before .before .before .before .before .before .before .args .g) _ (now (c .before .before .before .before .before .before .before .args .store)) (c .before .before .before .before .before .before .before .pre .0) (c .before .before .before .before .before .before .before .pre .1 .0) (c .before .before .before .before .before .before .before .args .level) (c .before .before .before .before .before .before .before .pre .1 .1))
+count-entries-requires c κs =
+    let a = c .before .before .before .before .before .before .before .args in
+    let pre = c .before .before .before .before .before .before .before .pre in
+    rw (c .run-at .ensures) (run-inside (a .g) _ (now (a .store)) (pre .0) (pre .1 .0) (a .level) (pre .1 .1))
 
 returns-2 : tie.Need-returns-2
 returns-2 c =
-    let n = c .before .before .at-level .ensures ∙ capacities-at (c .before .before .before .before .before .before .before .before .args .g) _ (now (c .before .before .before .before .before .before .before .before .args .store)) (lent (c .before .before .before .before .before .before .before .before .args .g) _ (now (c .before .before .before .before .before .before .before .before .args .store)) (c .before .before .before .before .before .before .before .before .pre .0 .in-range) (c .before .before .before .before .plan-for .ensures .0) (c .before .before .before .before .before .before .before .before .pre .0 .exact)) (c .before .before .before .before .before .before .before .before .args .level) (c .before .before .before .before .before .before .before .before .pre .1 .1) in
-    rw (lt-ltb (suc (c .before .before .before .before .before .before .before .before .args .level)) (c .before .before .before .before .before .before .before .before .args .g .levels) (omega (arith, c .before .before .before .before .before .if1 .left)))
-    (full-told (c .before .before .before .before .before .before .before .before .args .g) (now (c .before .before .before .before .before .before .before .before .args .store)) (c .before .before .before .before .before .before .before .before .args .level) _ _ n ((c .count-entries .ensures) ∙ rw (c .before .run-at .ensures) refl))
+    let a = c .before .before .before .before .before .before .before .before .args in
+    let pre = c .before .before .before .before .before .before .before .before .pre in
+    let n = c .before .before .at-level .ensures ∙ capacities-at (a .g) _ (now (a .store)) (lent (a .g) _ (now (a .store)) (pre .0 .in-range) (c .before .before .before .before .plan-for .ensures .0) (pre .0 .exact)) (a .level) (pre .1 .1) in
+    rw (lt-ltb (suc (a .level)) (a .g .levels) (omega (arith, c .before .before .before .before .before .if1 .left)))
+    (full-told (a .g) (now (a .store)) (a .level) _ _ n ((c .count-entries .ensures) ∙ rw (c .before .run-at .ensures) refl))
 
 pub is-full-spec : {M : Type 1} → statement M
 is-full-spec =

@@ -1,6 +1,6 @@
 use mathlib.Core.Path.{_≡_, refl}
 use denote.Ref.{now}
-use Rattle.written.specs.Written.{firstPair}
+use Rattle.layout.specs.Words.{firstPair}
 use Prim.Native.Nat.{_-_}
 use Rattle.merge.specs.Head.{Fencing, fences-begin, fences-go-on, fence-page}
 use borrow.Author.Needs.{needs}
@@ -15,7 +15,9 @@ abbrev μ-loop : tie.MeasureT-loop
 μ-loop store₀ below pages p₀ store p = pages - p
 
 loop-holds : tie.Need-loop-holds Inv-loop μ-loop
-loop-holds c = record { not-past = omega arith; long = refl; stands = fences-begin (now (c .before .args .store)) (c .before .args .below) }
+loop-holds c =
+    let a = c .before .args in
+    record { not-past = omega arith; long = refl; stands = fences-begin (now (a .store)) (a .below) }
 
 fence-of-requires : tie.Need-fence-of-requires Inv-loop μ-loop
 fence-of-requires c κs = omega (arith, c .before .before .loop .inv .long)
@@ -30,7 +32,9 @@ add-place : tie.Need-add-place Inv-loop μ-loop
 add-place c = search needs
 
 write-slot-requires : tie.Need-write-slot-requires Inv-loop μ-loop
-write-slot-requires c κs = (omega (arith, c .before .before .before .before .loop .inv .long), rw (c .before .fence-of .ensures) (omega (arith, fence-page (firstPair (c .before .before .before .before .loop .store) (c .before .before .before .before .before .before .args .below)) (c .before .before .before .before .loop .p))))
+write-slot-requires c κs =
+    let loop = c .before .before .before .before .loop in
+    (omega (arith, loop .inv .long), rw (c .before .fence-of .ensures) (omega (arith, fence-page (firstPair (loop .store) (c .before .before .before .before .before .before .args .below)) (loop .p))))
 
 add-p : tie.Need-add-p Inv-loop μ-loop
 add-p c = search needs
@@ -39,7 +43,11 @@ loop-less : tie.Need-loop-less Inv-loop μ-loop
 loop-less c = omega arith
 
 loop-again : tie.Need-loop-again Inv-loop μ-loop
-loop-again c = fences-go-on (now (c .before .before .before .before .before .before .before .before .before .args .store)) (c .before .before .before .before .before .before .before .before .before .args .below) (c .before .before .before .before .before .before .before .before .before .args .pages) (c .before .before .before .before .before .before .before .before .before .pre .0) (c .before .before .before .before .before .before .before .loop .store) (c .before .before .before .before .before .before .before .loop .p) (c .before .before .before .before .before .before .before .loop .inv) (c .before .before .before .before .fence-of .result) _ (c .before .before .before .before .before .before .loop-test .taken) (c .before .before .before .before .fence-of .ensures) (c .before .before .write-slot .ensures)
+loop-again c =
+    let a = c .before .before .before .before .before .before .before .before .before .args in
+    let loop = c .before .before .before .before .before .before .before .loop in
+    let fence-of = c .before .before .before .before .fence-of in
+    fences-go-on (now (a .store)) (a .below) (a .pages) (c .before .before .before .before .before .before .before .before .before .pre .0) (loop .store) (loop .p) (loop .inv) (fence-of .result) _ (c .before .before .before .before .before .before .loop-test .taken) (fence-of .ensures) (c .before .before .write-slot .ensures)
 
 same-length : tie.Need-same-length Inv-loop μ-loop
 same-length c = omega (arith, c .before .loop .inv .long)

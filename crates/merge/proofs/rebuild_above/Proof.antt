@@ -18,26 +18,34 @@ abbrev μ-loop : tie.MeasureT-loop
 μ-loop store₀ work₀ g level pages₀ i₀ store work pages i = i
 
 loop-holds : tie.Need-loop-holds Inv-loop μ-loop
-loop-holds c = (rebuilding-begins (c .before .before .args .g) (now (c .before .before .args .store)) (c .before .before .args .level) (c .before .before .pre .1 .1 .1), refl)
+loop-holds c =
+    let a = c .before .before .args in
+    (rebuilding-begins (a .g) (now (a .store)) (a .level) (c .before .before .pre .1 .1 .1), refl)
 
 rebuild-level-requires : tie.Need-rebuild-level-requires Inv-loop μ-loop
 rebuild-level-requires c κs =
-    let so = c .before .before .before .loop .inv .0 in
-    let l = c .before .before .before .before .before .before .pre .0 in (
-      lent (c .before .before .before .before .before .before .args .g) (planOf (c .before .before .before .before .before .before .args .g)) (c .before .before .before .loop .store) (l .in-range) (l .planned) (so .long ∙ l .exact),
+    let a = c .before .before .before .before .before .before .args in
+    let pre = c .before .before .before .before .before .before .pre in
+    let loop = c .before .before .before .loop in
+    let so = loop .inv .0 in
+    let l = pre .0 in (
+      lent (a .g) (planOf (a .g)) (loop .store) (l .in-range) (l .planned) (so .long ∙ l .exact),
       (
-        c .before .before .before .loop .inv .1 ∙ (c .before .before .before .before .before .before .pre .1 .0),
-        ((omega arith, omega (arith, so .reaches, c .before .before .before .before .before .before .pre .1 .1 .0)), next-fillable (c .before .before .before .before .before .before .args .g) (now (c .before .before .before .before .before .before .args .store)) (c .before .before .before .before .before .before .args .level) (c .before .before .before .loop .store) (c .before .before .before .loop .pages) (c .before .before .before .loop .i) so (omega arith)),
+        loop .inv .1 ∙ (pre .1 .0),
+        ((omega arith, omega (arith, so .reaches, pre .1 .1 .0)), next-fillable (a .g) (now (a .store)) (a .level) (loop .store) (loop .pages) (loop .i) so (omega arith)),
       ),
     )
 
 add-pages : tie.Need-add-pages Inv-loop μ-loop
 add-pages c =
-    let so = c .before .before .before .before .before .before .before .before .loop .inv .0 in
-    let l = c .before .before .before .before .before .before .before .before .before .before .before .pre .0 in
-    let few = rebuilding-few (c .before .before .before .before .before .before .before .before .before .before .before .args .g) (now (c .before .before .before .before .before .before .before .before .before .before .before .args .store)) (c .before .before .before .before .before .before .before .before .before .before .before .args .level) (c .before .before .before .before .before .before .before .before .loop .store) (c .before .before .before .before .before .before .before .before .loop .pages) (c .before .before .before .before .before .before .before .before .loop .i) so (l .in-range) (omega (arith, c .before .before .before .before .before .before .before .before .before .before .before .pre .1 .1 .0, l .in-range .levels-most)) (c .before .before .before .before .before .before .before .before .before .before .before .pre .1 .1 .1) in
-    let next = next-fillable (c .before .before .before .before .before .before .before .before .before .before .before .args .g) (now (c .before .before .before .before .before .before .before .before .before .before .before .args .store)) (c .before .before .before .before .before .before .before .before .before .before .before .args .level) (c .before .before .before .before .before .before .before .before .loop .store) (c .before .before .before .before .before .before .before .before .loop .pages) (c .before .before .before .before .before .before .before .before .loop .i) so (omega arith) in
-    omega (arith, few, next .enough, c .before .before .before .before .rebuild-level .ensures .1, room-small (c .before .before .before .before .before .before .before .before .before .before .before .args .g) (l .in-range) (c .before .before .before .before .before .before .before .before .loop .i))
+    let a = c .before .before .before .before .before .before .before .before .before .before .before .args in
+    let pre = c .before .before .before .before .before .before .before .before .before .before .before .pre in
+    let loop = c .before .before .before .before .before .before .before .before .loop in
+    let so = loop .inv .0 in
+    let l = pre .0 in
+    let few = rebuilding-few (a .g) (now (a .store)) (a .level) (loop .store) (loop .pages) (loop .i) so (l .in-range) (omega (arith, pre .1 .1 .0, l .in-range .levels-most)) (pre .1 .1 .1) in
+    let next = next-fillable (a .g) (now (a .store)) (a .level) (loop .store) (loop .pages) (loop .i) so (omega arith) in
+    omega (arith, few, next .enough, c .before .before .before .before .rebuild-level .ensures .1, room-small (a .g) (l .in-range) (loop .i))
 
 sub-i : tie.Need-sub-i Inv-loop μ-loop
 sub-i c = search needs
@@ -47,9 +55,12 @@ loop-less c = omega arith
 
 loop-again : tie.Need-loop-again Inv-loop μ-loop
 loop-again c =
-    let so = c .before .before .before .before .before .before .before .before .loop .inv .0 in (
-      rebuilding-goes-on (c .before .before .before .before .before .before .before .before .before .before .before .args .g) (now (c .before .before .before .before .before .before .before .before .before .before .before .args .store)) (c .before .before .before .before .before .before .before .before .before .before .before .args .level) (c .before .before .before .before .before .before .before .before .loop .store) (c .before .before .before .before .before .before .before .before .loop .pages) (c .before .before .before .before .before .before .before .before .loop .i) so (omega arith) (omega arith) (c .before .before .before .before .rebuild-level .ensures .0) (c .before .before .before .before .rebuild-level .ensures .1),
-      omega (arith, c .before .before .before .before .before .before .before .before .loop .inv .1),
+    let a = c .before .before .before .before .before .before .before .before .before .before .before .args in
+    let loop = c .before .before .before .before .before .before .before .before .loop in
+    let rebuild-level = c .before .before .before .before .rebuild-level in
+    let so = loop .inv .0 in (
+      rebuilding-goes-on (a .g) (now (a .store)) (a .level) (loop .store) (loop .pages) (loop .i) so (omega arith) (omega arith) (rebuild-level .ensures .0) (rebuild-level .ensures .1),
+      omega (arith, loop .inv .1),
     )
 
 plan-for-requires : tie.Need-plan-for-requires Inv-loop μ-loop
@@ -57,10 +68,12 @@ plan-for-requires c κs = c .before .before .before .before .before .pre .0 .in-
 
 rebuild-head-requires : tie.Need-rebuild-head-requires Inv-loop μ-loop
 rebuild-head-requires c κs =
-    let so = c .before .before .before .loop .inv .0 in
+    let a = c .before .before .before .before .before .before .args in
+    let loop = c .before .before .before .loop in
+    let so = loop .inv .0 in
     let l = c .before .before .before .before .before .before .pre .0 in (
-      lent (c .before .before .before .before .before .before .args .g) _ (c .before .before .before .loop .store) (l .in-range) (c .plan-for .ensures .0) (so .long ∙ l .exact),
-      head-within (c .before .before .before .before .before .before .args .g) (now (c .before .before .before .before .before .before .args .store)) (c .before .before .before .before .before .before .args .level) (c .before .before .before .loop .store) (c .before .before .before .loop .pages) (c .before .before .before .loop .i) so (omega arith),
+      lent (a .g) _ (loop .store) (l .in-range) (c .plan-for .ensures .0) (so .long ∙ l .exact),
+      head-within (a .g) (now (a .store)) (a .level) (loop .store) (loop .pages) (loop .i) so (omega arith),
     )
 
 same-length : tie.Need-same-length Inv-loop μ-loop
@@ -70,7 +83,10 @@ same-length-2 : tie.Need-same-length-2 Inv-loop μ-loop
 same-length-2 c = omega (arith, c .before .before .before .before .before .before .loop .inv .1)
 
 returns : tie.Need-returns Inv-loop μ-loop
-returns c = rebuilding-ends (c .before .before .before .before .before .before .before .before .before .args .g) (now (c .before .before .before .before .before .before .before .before .before .args .store)) (c .before .before .before .before .before .before .before .before .before .args .level) (c .before .before .before .before .before .before .loop .store) (c .before .before .before .before .before .before .loop .pages) (c .before .before .before .before .before .before .loop .i) (c .before .before .before .before .before .before .loop .inv .0) (omega arith) (c .before .before .rebuild-head .ensures)
+returns c =
+    let a = c .before .before .before .before .before .before .before .before .before .args in
+    let loop = c .before .before .before .before .before .before .loop in
+    rebuilding-ends (a .g) (now (a .store)) (a .level) (loop .store) (loop .pages) (loop .i) (loop .inv .0) (omega arith) (c .before .before .rebuild-head .ensures)
 
 pub rebuild-above-spec : {M : Type 1} → statement M
 rebuild-above-spec =

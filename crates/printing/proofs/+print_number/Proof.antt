@@ -1,6 +1,6 @@
 -- `print_number` puts a tenth of the number and then its last digit; the number falls at each call. Assumes nothing.
 use Rattle.printing.specs.Decimal.{length-digit, length-more}
-use Rattle.printing.specs.Printed.{digit-printed, last-printed}
+use Rattle.printing.specs.Digits.{digit-printed, last-printed}
 use denote.Ref.{now}
 use borrow.Author.Needs.{needs}
 use native.Mathlib.Omega.{arith}
@@ -68,9 +68,10 @@ print-number-returns : (t : ℕ) → print-number-lts.Need-returns (
   print-number.Post,
 ) (print-number-at t) print-number.Post
 print-number-returns t c =
-    let n = c .before .before .before .args .n in
+    let entry = c .before .before .before in
+    let n = entry .args .n in
     let one : n < 10 = c .before .if1 .taken in
-    (omega (arith, length-digit n one), digit-printed (now (c .before .before .before .args .out)) (c .before .before .before .args .at) n one (c .digit .ensures))
+    digit-printed (now (entry .args .out)) (entry .args .at) n one (c .digit .ensures)
 
 print-number-print-number-requires : (t : ℕ) → print-number-lts.Need-print-number-requires (
   digit-reads.Asked,
@@ -79,9 +80,10 @@ print-number-print-number-requires : (t : ℕ) → print-number-lts.Need-print-n
   print-number.Post,
 ) (print-number-at t) print-number.Post
 print-number-print-number-requires t c κs =
-    let n = c .before .before .before .args .n in
+    let entry = c .before .before .before in
+    let n = entry .args .n in
     let more : 10 ≤ n = c .before .if1 .left in
-    (omega (arith, c .before .before .before .pre .0), omega (arith, length-more n more, c .before .before .before .pre .1))
+    (omega (arith, entry .pre .0), omega (arith, length-more n more, entry .pre .1))
 
 print-number-digit-requires-2 : (t : ℕ) → print-number-lts.Need-digit-requires-2 (
   digit-reads.Asked,
@@ -98,10 +100,11 @@ print-number-slice-write-out-2 : (t : ℕ) → print-number-lts.Need-slice-write
   print-number.Post,
 ) (print-number-at t) print-number.Post
 print-number-slice-write-out-2 t c =
-    let n = c .before .before .before .before .before .before .before .args .n in
+    let entry = c .before .before .before .before .before .before .before in
+    let n = entry .args .n in
     let more : 10 ≤ n = c .before .before .before .before .before .if1 .left in
     let told = c .before .before .before .print-number .ensures in
-    omega (arith, length-more n more, told .0, c .before .before .before .before .before .before .before .pre .1)
+    omega (arith, length-more n more, told .ends, entry .pre .1)
 
 print-number-add-result-2 : (t : ℕ) → print-number-lts.Need-add-result-2 (
   digit-reads.Asked,
@@ -110,10 +113,11 @@ print-number-add-result-2 : (t : ℕ) → print-number-lts.Need-add-result-2 (
   print-number.Post,
 ) (print-number-at t) print-number.Post
 print-number-add-result-2 t c =
-    let n = c .before .before .before .before .before .before .before .args .n in
+    let entry = c .before .before .before .before .before .before .before in
+    let n = entry .args .n in
     let more : 10 ≤ n = c .before .before .before .before .before .if1 .left in
     let told = c .before .before .before .print-number .ensures in
-    omega (arith, length-more n more, told .0, c .before .before .before .before .before .before .before .pre .1)
+    omega (arith, length-more n more, told .ends, entry .pre .1)
 
 print-number-same-length-2 : (t : ℕ) → print-number-lts.Need-same-length-2 (
   digit-reads.Asked,
@@ -130,10 +134,11 @@ print-number-returns-2 : (t : ℕ) → print-number-lts.Need-returns-2 (
   print-number.Post,
 ) (print-number-at t) print-number.Post
 print-number-returns-2 t c =
-    let n = c .before .before .before .before .before .before .before .args .n in
+    let entry = c .before .before .before .before .before .before .before in
+    let n = entry .args .n in
     let more : 10 ≤ n = c .before .before .before .before .before .if1 .left in
     let told = c .before .before .before .print-number .ensures in
-    (omega (arith, length-more n more, told .0), last-printed (now (c .before .before .before .before .before .before .before .args .out)) (c .before .before .before .before .before .before .before .args .at) n more (told .1) (told .0) (c .digit2 .ensures))
+    last-printed (now (entry .args .out)) (entry .args .at) n more told (c .digit2 .ensures)
 
 pub +print-number-spec : {M : Type 1} → statement M
 +print-number-spec = close μ-print-number λ t. print-number-lts.spec (

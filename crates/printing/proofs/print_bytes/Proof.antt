@@ -9,8 +9,6 @@ use borrow.Author.Needs.{needs}
 use native.Mathlib.Omega.{arith}
 use Rattle.printing.proofs.print_bytes.Statement.{statement}
 use Rattle.printing.proofs.print_bytes.Tie as tie
-use Rattle.printing.proofs.print_bytes.Reads as reads
-use Rattle.printing.proofs.print_bytes.Lts as lts
 
 abbrev Inv-loop : tie.InvT-loop
 Inv-loop out₀ at text n j₀ out j = Copying out₀ at text n out j
@@ -19,7 +17,9 @@ abbrev μ-loop : tie.MeasureT-loop
 μ-loop out₀ at text n j₀ out j = n - j
 
 loop-holds : tie.Need-loop-holds Inv-loop μ-loop
-loop-holds c = record { not-past = omega arith; long = refl; copies = copy-begins (c .args .at) (now (c .args .text)) _ (now (c .args .out)) }
+loop-holds c =
+    let a = c .args in
+    record { not-past = omega arith; long = refl; copies = copy-begins (a .at) (now (a .text)) _ (now (a .out)) }
 
 shared-slice-read-out : tie.Need-shared-slice-read-out Inv-loop μ-loop
 shared-slice-read-out c = search needs
@@ -37,7 +37,10 @@ loop-less : tie.Need-loop-less Inv-loop μ-loop
 loop-less c = search needs
 
 loop-again : tie.Need-loop-again Inv-loop μ-loop
-loop-again c = record { not-past = omega arith; long = simp length-set (c .before .before .loop .inv .long); copies = copy-goes-on (c .before .before .before .args .at) (now (c .before .before .before .args .text)) _ (c .before .before .loop .out) (c .before .before .loop .j) (omega arith) (omega arith) ∙ (c .before .before .loop .inv .copies) }
+loop-again c =
+    let at-loop = c .before .before in
+    let entry = at-loop .before in
+    record { not-past = omega arith; long = simp length-set (at-loop .loop .inv .long); copies = copy-goes-on (entry .args .at) (now (entry .args .text)) _ (at-loop .loop .out) (at-loop .loop .j) (omega arith) (omega arith) ∙ (at-loop .loop .inv .copies) }
 
 add-result : tie.Need-add-result Inv-loop μ-loop
 add-result c = search needs
@@ -47,9 +50,13 @@ same-length c = search needs
 
 returns : tie.Need-returns Inv-loop μ-loop
 returns c =
-    let text = now (c .before .before .args .text) in
+    let entry = c .before .before in
+    let text = now (entry .args .text) in
     let l = c .before .loop in
-    (refl, copy-ends (c .before .before .args .at) text (length text) (l .out) (l .j) (omega (arith, l .inv .not-past)) ∙ l .inv .copies ∙ rw (take-length text))
+    record {
+      ends = refl;
+      stands = copy-ends (entry .args .at) text (length text) (l .out) (l .j) (omega (arith, l .inv .not-past)) ∙ l .inv .copies ∙ rw (take-length text);
+    }
 
 pub print-bytes-spec : {M : Type 1} → statement M
 print-bytes-spec =

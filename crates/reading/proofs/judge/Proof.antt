@@ -27,13 +27,23 @@ enum-told : tie.Need-enum-told
 enum-told c = search needs
 
 returns-2 : tie.Need-returns-2
-returns-2 c = faulty-heading (now (c .before .before .before .before .before .before .args .input)) (c .before .before .before .before .if1 .left) _ (rw (c .before .line .given .1) at (c .before .before .before .read-geometry .ensures))
+returns-2 c =
+    let entry = c .before .before .before .before .before .before in
+    faulty-heading (now (entry .args .input)) (c .before .before .before .before .if1 .left) _ (rw (c .before .line .given .1) at (c .before .before .before .read-geometry .ensures))
 
 returns-3 : tie.Need-returns-3
-returns-3 c = faulty-request (now (c .before .before .before .before .before .before .before .before .before .before .args .input)) (c .before .before .before .before .before .before .before .before .if1 .left) _ _ (rw (c .before .before .before .before .before .geometry .given .1) at (c .before .before .before .before .before .before .before .read-geometry .ensures)) _ (rw (c .before .line2 .given .1) at (c .before .before .before .judge-requests .ensures))
+returns-3 c =
+    let at-read-geometry = c .before .before .before .before .before .before .before in
+    let read-geometry = rw (c .before .before .before .before .before .geometry .given .1) at (at-read-geometry .read-geometry .ensures) in
+    let read-line = rw (c .before .line2 .given .1) at (c .before .before .before .judge-requests .ensures) in
+    faulty-request (now (at-read-geometry .before .before .before .args .input)) (at-read-geometry .before .if1 .left) _ _ read-geometry _ read-line
 
 returns-4 : tie.Need-returns-4
-returns-4 c = ready (now (c .before .before .before .before .before .before .before .before .before .args .input)) (c .before .before .before .before .before .before .before .if1 .left) _ _ (rw (c .before .before .before .before .geometry .given .1) at (c .before .before .before .before .before .before .read-geometry .ensures)) (rw (c .enum-told .given .1) at (c .before .before .judge-requests .ensures))
+returns-4 c =
+    let at-read-geometry = c .before .before .before .before .before .before in
+    let read-geometry = rw (c .before .before .before .before .geometry .given .1) at (at-read-geometry .read-geometry .ensures) in
+    let faultless = rw (c .enum-told .given .1) at (c .before .before .judge-requests .ensures) in
+    ready (now (at-read-geometry .before .before .before .args .input)) (at-read-geometry .before .if1 .left) _ _ read-geometry faultless
 
 pub judge-spec : {M : Type 1} → statement M
 judge-spec =

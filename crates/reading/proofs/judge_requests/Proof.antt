@@ -15,7 +15,9 @@ abbrev μ-loop : tie.MeasureT-loop
 μ-loop input from at₀ line₀ at line = length input - at
 
 loop-holds : tie.Need-loop-holds Inv-loop μ-loop
-loop-holds c = judge-begins (now (c .before .args .input)) (c .before .args .from) (c .before .pre .0)
+loop-holds c =
+    let a = c .before .args in
+    judge-begins (now (a .input)) (a .from) (c .before .pre .0)
 
 read-group-requires : tie.Need-read-group-requires Inv-loop μ-loop
 read-group-requires c κs = search needs
@@ -24,25 +26,39 @@ enum-known-behind : tie.Need-enum-known-behind Inv-loop μ-loop
 enum-known-behind c = search needs
 
 add-t10 : tie.Need-add-t10 Inv-loop μ-loop
-add-t10 c = omega (arith, c .before .before .before .before .before .loop .inv .few, c .before .before .before .before .before .loop .inv .within, c .before .before .before .before .before .before .before .pre .1, (rw (c .before .behind .given .1) at (c .before .before .before .read-group .ensures)) .0)
+add-t10 c =
+    let at-loop = c .before .before .before .before .before in
+    omega (arith, at-loop .loop .inv .few, at-loop .loop .inv .within, at-loop .before .before .pre .1, (rw (c .before .behind .given .1) at (c .before .before .before .read-group .ensures)) .0)
 
 returns : tie.Need-returns Inv-loop μ-loop
-returns c = judge-faulty (now (c .before .before .before .before .before .before .before .args .input)) (c .before .before .before .before .before .before .before .args .from) (c .before .before .before .before .before .loop .at) (c .before .before .before .before .before .loop .line) (c .before .before .before .before .before .loop .inv) _ (rw (c .before .behind .given .1) at (c .before .before .before .read-group .ensures))
+returns c =
+    let at-loop = c .before .before .before .before .before in
+    let entry = at-loop .before .before in
+    let read-behind = rw (c .before .behind .given .1) at (c .before .before .before .read-group .ensures) in
+    judge-faulty (now (entry .args .input)) (entry .args .from) (at-loop .loop .at) (at-loop .loop .line) (at-loop .loop .inv) _ read-behind
 
 enum-known-next : tie.Need-enum-known-next Inv-loop μ-loop
 enum-known-next c = search needs
 
 add-line : tie.Need-add-line Inv-loop μ-loop
-add-line c = omega (arith, c .before .before .before .before .before .loop .inv .few, c .before .before .before .before .before .loop .inv .within, c .before .before .before .before .before .before .before .pre .1)
+add-line c =
+    let at-loop = c .before .before .before .before .before in
+    omega (arith, at-loop .loop .inv .few, at-loop .loop .inv .within, at-loop .before .before .pre .1)
 
 loop-less : tie.Need-loop-less Inv-loop μ-loop
 loop-less c = omega (arith, (rw (c .before .next .given .1) at (c .before .before .before .read-group .ensures)) .passes)
 
 loop-again : tie.Need-loop-again Inv-loop μ-loop
-loop-again c = judge-goes-on (now (c .before .before .before .before .before .before .before .args .input)) (c .before .before .before .before .before .before .before .args .from) (c .before .before .before .before .before .loop .at) (c .before .before .before .before .before .loop .line) (c .before .before .before .before .before .loop .inv) _ _ (rw (c .before .next .given .1) at (c .before .before .before .read-group .ensures))
+loop-again c =
+    let at-loop = c .before .before .before .before .before in
+    let entry = at-loop .before .before in
+    let read-next = rw (c .before .next .given .1) at (c .before .before .before .read-group .ensures) in
+    judge-goes-on (now (entry .args .input)) (entry .args .from) (at-loop .loop .at) (at-loop .loop .line) (at-loop .loop .inv) _ _ read-next
 
 returns-2 : tie.Need-returns-2 Inv-loop μ-loop
-returns-2 c = judge-ends (now (c .before .before .before .args .input)) (c .before .before .before .args .from) (c .before .loop .at) (c .before .loop .line) (c .before .loop .inv) (omega arith)
+returns-2 c =
+    let entry = c .before .before .before in
+    judge-ends (now (entry .args .input)) (entry .args .from) (c .before .loop .at) (c .before .loop .line) (c .before .loop .inv) (omega arith)
 
 pub judge-requests-spec : {M : Type 1} → statement M
 judge-requests-spec =

@@ -35,7 +35,11 @@ enum-told-2 : tie.Need-enum-told-2
 enum-told-2 c = search needs
 
 returns-2 : tie.Need-returns-2
-returns-2 c = ratioless (now (c .before .before .before .before .before .before .before .before .before .before .args .input)) _ _ (rw (c .before .before .before .before .before .head .given .1) at (c .before .before .before .before .before .before .before .read-ranged .ensures)) (rw (c .enum-told2 .given .1) at (c .before .before .read-ranged2 .ensures))
+returns-2 c =
+    let at-read-ranged = c .before .before .before .before .before .before .before in
+    let read-head = rw (c .before .before .before .before .before .head .given .1) at (at-read-ranged .read-ranged .ensures) in
+    let faulty = rw (c .enum-told2 .given .1) at (c .before .before .read-ranged2 .ensures) in
+    ratioless (now (at-read-ranged .before .before .before .args .input)) _ _ read-head faulty
 
 slice-aggregate-read-ranged-3 : tie.Need-slice-aggregate-read-ranged-3
 slice-aggregate-read-ranged-3 c = search needs
@@ -50,16 +54,43 @@ enum-told-3 : tie.Need-enum-told-3
 enum-told-3 c = search needs
 
 returns-3 : tie.Need-returns-3
-returns-3 c = levelless (now (c .before .before .before .before .before .before .before .before .before .before .before .before .before .before .before .args .input)) _ _ (rw (c .before .before .before .before .before .before .before .before .before .before .head .given .1) at (c .before .before .before .before .before .before .before .before .before .before .before .before .read-ranged .ensures)) _ _ (rw (c .before .before .before .before .before .ratio .given .1) at (c .before .before .before .before .before .before .before .read-ranged2 .ensures)) (rw (c .enum-told3 .given .1) at (c .before .before .read-ranged3 .ensures))
+returns-3 c =
+    let at-read-ranged2 = c .before .before .before .before .before .before .before in
+    let at-read-ranged = at-read-ranged2 .before .before .before .before .before in
+    let read-head = rw (at-read-ranged2 .before .before .before .head .given .1) at (at-read-ranged .read-ranged .ensures) in
+    let read-ratio = rw (c .before .before .before .before .before .ratio .given .1) at (at-read-ranged2 .read-ranged2 .ensures) in
+    let faulty = rw (c .enum-told3 .given .1) at (c .before .before .read-ranged3 .ensures) in
+    levelless (now (at-read-ranged .before .before .before .args .input)) _ _ read-head _ _ read-ratio faulty
 
 plan-for-requires : tie.Need-plan-for-requires
-plan-for-requires c κs = read-in-range (now (c .before .before .before .before .before .before .before .before .before .before .before .before .before .before .before .before .args .input)) _ _ (rw (c .before .before .before .before .before .before .before .before .before .before .before .head .given .1) at (c .before .before .before .before .before .before .before .before .before .before .before .before .before .read-ranged .ensures)) _ _ (rw (c .before .before .before .before .before .before .ratio .given .1) at (c .before .before .before .before .before .before .before .before .read-ranged2 .ensures)) _ _ (rw (c .before .levels .given .1) at (c .before .before .before .read-ranged3 .ensures))
+plan-for-requires c κs =
+    let at-ratio = c .before .before .before .before .before .before in
+    let at-head = at-ratio .before .before .before .before .before in
+    let entry = at-head .before .before .before .before .before in
+    let read-head = rw (at-head .head .given .1) at (at-head .before .before .read-ranged .ensures) in
+    let read-ratio = rw (at-ratio .ratio .given .1) at (at-ratio .before .before .read-ranged2 .ensures) in
+    let read-levels = rw (c .before .levels .given .1) at (c .before .before .before .read-ranged3 .ensures) in
+    read-in-range (now (entry .args .input)) _ _ read-head _ _ read-ratio _ _ read-levels
 
 returns-4 : tie.Need-returns-4
-returns-4 c = too-long (now (c .before .before .before .before .before .before .before .before .before .before .before .before .before .before .before .before .before .before .before .args .input)) _ _ (rw (c .before .before .before .before .before .before .before .before .before .before .before .before .before .before .head .given .1) at (c .before .before .before .before .before .before .before .before .before .before .before .before .before .before .before .before .read-ranged .ensures)) _ _ (rw (c .before .before .before .before .before .before .before .before .before .ratio .given .1) at (c .before .before .before .before .before .before .before .before .before .before .before .read-ranged2 .ensures)) _ _ (rw (c .before .before .before .before .levels .given .1) at (c .before .before .before .before .before .before .read-ranged3 .ensures)) (omega (arith, plan-words _ _ (c .before .before .plan-for .ensures .0)))
+returns-4 c =
+    let at-read-ranged3 = c .before .before .before .before .before .before in
+    let at-read-ranged2 = at-read-ranged3 .before .before .before .before .before in
+    let at-read-ranged = at-read-ranged2 .before .before .before .before .before in
+    let read-head = rw (at-read-ranged2 .before .before .before .head .given .1) at (at-read-ranged .read-ranged .ensures) in
+    let read-ratio = rw (at-read-ranged3 .before .before .before .ratio .given .1) at (at-read-ranged2 .read-ranged2 .ensures) in
+    let read-levels = rw (c .before .before .before .before .levels .given .1) at (at-read-ranged3 .read-ranged3 .ensures) in
+    too-long (now (at-read-ranged .before .before .before .args .input)) _ _ read-head _ _ read-ratio _ _ read-levels (omega (arith, plan-words _ _ (c .before .before .plan-for .ensures .0)))
 
 returns-5 : tie.Need-returns-5
-returns-5 c = headed (now (c .before .before .before .before .before .before .before .before .before .before .before .before .before .before .before .before .before .before .before .args .input)) _ _ (rw (c .before .before .before .before .before .before .before .before .before .before .before .before .before .before .head .given .1) at (c .before .before .before .before .before .before .before .before .before .before .before .before .before .before .before .before .read-ranged .ensures)) _ _ (rw (c .before .before .before .before .before .before .before .before .before .ratio .given .1) at (c .before .before .before .before .before .before .before .before .before .before .before .read-ranged2 .ensures)) _ _ (rw (c .before .before .before .before .levels .given .1) at (c .before .before .before .before .before .before .read-ranged3 .ensures)) (omega (arith, plan-words _ _ (c .before .before .plan-for .ensures .0)))
+returns-5 c =
+    let at-read-ranged3 = c .before .before .before .before .before .before in
+    let at-read-ranged2 = at-read-ranged3 .before .before .before .before .before in
+    let at-read-ranged = at-read-ranged2 .before .before .before .before .before in
+    let read-head = rw (at-read-ranged2 .before .before .before .head .given .1) at (at-read-ranged .read-ranged .ensures) in
+    let read-ratio = rw (at-read-ranged3 .before .before .before .ratio .given .1) at (at-read-ranged2 .read-ranged2 .ensures) in
+    let read-levels = rw (c .before .before .before .before .levels .given .1) at (at-read-ranged3 .read-ranged3 .ensures) in
+    headed (now (at-read-ranged .before .before .before .args .input)) _ _ read-head _ _ read-ratio _ _ read-levels (omega (arith, plan-words _ _ (c .before .before .plan-for .ensures .0)))
 
 pub read-geometry-spec : {M : Type 1} → statement M
 read-geometry-spec =

@@ -1,6 +1,6 @@
 -- `read_group` tells a request from three lines, or the first of them that is faulty. Assumes nothing.
 use denote.Ref.{now}
-use Rattle.reading.specs.Values.{group-unnamed, group-badgeless, group-floorless, group-read}
+use Rattle.reading.specs.Groups.{group-unnamed, group-badgeless, group-floorless, group-read}
 use borrow.Author.Needs.{needs}
 use Rattle.reading.proofs.read_group.Statement.{statement}
 use Rattle.reading.proofs.read_group.Tie as tie
@@ -15,7 +15,9 @@ enum-told : tie.Need-enum-told
 enum-told c = search needs
 
 returns : tie.Need-returns
-returns c = group-unnamed (now (c .before .before .before .before .args .input)) (c .before .before .before .before .args .at) (c .before .before .before .before .pre) (rw (c .enum-told .given .1) at (c .before .before .read-operation .ensures))
+returns c =
+    let entry = c .before .before .before .before in
+    group-unnamed (now (entry .args .input)) (entry .args .at) (entry .pre) (rw (c .enum-told .given .1) at (c .before .before .read-operation .ensures))
 
 slice-aggregate-read-value : tie.Need-slice-aggregate-read-value
 slice-aggregate-read-value c = search needs
@@ -30,7 +32,12 @@ enum-told-2 : tie.Need-enum-told-2
 enum-told-2 c = search needs
 
 returns-2 : tie.Need-returns-2
-returns-2 c = group-badgeless (now (c .before .before .before .before .before .before .before .before .before .args .input)) (c .before .before .before .before .before .before .before .before .before .args .at) (c .before .before .before .before .before .before .before .before .before .pre) _ _ (rw (c .before .before .before .before .before .operation .given .1) at (c .before .before .before .before .before .before .before .read-operation .ensures)) (rw (c .enum-told2 .given .1) at (c .before .before .read-value .ensures))
+returns-2 c =
+    let at-read-operation = c .before .before .before .before .before .before .before in
+    let entry = at-read-operation .before .before in
+    let read-operation = rw (c .before .before .before .before .before .operation .given .1) at (at-read-operation .read-operation .ensures) in
+    let faulty = rw (c .enum-told2 .given .1) at (c .before .before .read-value .ensures) in
+    group-badgeless (now (entry .args .input)) (entry .args .at) (entry .pre) _ _ read-operation faulty
 
 slice-aggregate-read-value-2 : tie.Need-slice-aggregate-read-value-2
 slice-aggregate-read-value-2 c = search needs
@@ -45,10 +52,24 @@ enum-told-3 : tie.Need-enum-told-3
 enum-told-3 c = search needs
 
 returns-3 : tie.Need-returns-3
-returns-3 c = group-floorless (now (c .before .before .before .before .before .before .before .before .before .before .before .before .before .before .args .input)) (c .before .before .before .before .before .before .before .before .before .before .before .before .before .before .args .at) (c .before .before .before .before .before .before .before .before .before .before .before .before .before .before .pre) _ _ (rw (c .before .before .before .before .before .before .before .before .before .before .operation .given .1) at (c .before .before .before .before .before .before .before .before .before .before .before .before .read-operation .ensures)) _ _ (rw (c .before .before .before .before .before .badge .given .1) at (c .before .before .before .before .before .before .before .read-value .ensures)) (rw (c .enum-told3 .given .1) at (c .before .before .read-value2 .ensures))
+returns-3 c =
+    let at-read-value = c .before .before .before .before .before .before .before in
+    let at-read-operation = at-read-value .before .before .before .before .before in
+    let entry = at-read-operation .before .before in
+    let read-operation = rw (at-read-value .before .before .before .operation .given .1) at (at-read-operation .read-operation .ensures) in
+    let read-badge = rw (c .before .before .before .before .before .badge .given .1) at (at-read-value .read-value .ensures) in
+    let faulty = rw (c .enum-told3 .given .1) at (c .before .before .read-value2 .ensures) in
+    group-floorless (now (entry .args .input)) (entry .args .at) (entry .pre) _ _ read-operation _ _ read-badge faulty
 
 returns-4 : tie.Need-returns-4
-returns-4 c = group-read (now (c .before .before .before .before .before .before .before .before .before .before .before .before .before .before .before .args .input)) (c .before .before .before .before .before .before .before .before .before .before .before .before .before .before .before .args .at) (c .before .before .before .before .before .before .before .before .before .before .before .before .before .before .before .pre) _ _ (rw (c .before .before .before .before .before .before .before .before .before .before .before .operation .given .1) at (c .before .before .before .before .before .before .before .before .before .before .before .before .before .read-operation .ensures)) _ _ (rw (c .before .before .before .before .before .before .badge .given .1) at (c .before .before .before .before .before .before .before .before .read-value .ensures)) _ _ (rw (c .before .floor .given .1) at (c .before .before .before .read-value2 .ensures))
+returns-4 c =
+    let at-badge = c .before .before .before .before .before .before in
+    let at-operation = at-badge .before .before .before .before .before in
+    let entry = at-operation .before .before .before .before in
+    let read-operation = rw (at-operation .operation .given .1) at (at-operation .before .before .read-operation .ensures) in
+    let read-badge = rw (at-badge .badge .given .1) at (at-badge .before .before .read-value .ensures) in
+    let read-floor = rw (c .before .floor .given .1) at (c .before .before .before .read-value2 .ensures) in
+    group-read (now (entry .args .input)) (entry .args .at) (entry .pre) _ _ read-operation _ _ read-badge _ _ read-floor
 
 pub read-group-spec : {M : Type 1} → statement M
 read-group-spec =

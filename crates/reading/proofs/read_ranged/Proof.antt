@@ -16,16 +16,28 @@ enum-told : tie.Need-enum-told
 enum-told c = search needs
 
 returns : tie.Need-returns
-returns c = ranged-faulty (now (c .before .before .before .before .before .args .input)) (c .before .before .before .before .before .args .at) (length (now (c .before .before .before .before .before .args .name))) (c .before .before .before .before .before .args .least) (c .before .before .before .before .before .args .most) (now (c .before .before .before .before .before .args .name)) (rw (c .enum-told .given .1) at (c .before .before .read-value .ensures))
+returns c =
+    let entry = c .before .before .before .before .before in
+    let faulty = rw (c .enum-told .given .1) at (c .before .before .read-value .ensures) in
+    ranged-faulty (now (entry .args .input)) (entry .args .at) (length (now (entry .args .name))) (entry .args .least) (entry .args .most) (now (entry .args .name)) faulty
 
 returns-2 : tie.Need-returns-2
-returns-2 c = ranged-low (now (c .before .before .before .before .before .before .before .args .input)) (c .before .before .before .before .before .before .before .args .at) (length (now (c .before .before .before .before .before .before .before .args .name))) (c .before .before .before .before .before .before .before .args .least) (c .before .before .before .before .before .before .before .args .most) (now (c .before .before .before .before .before .before .before .args .name)) _ _ (rw (c .before .before .n .given .1) at (c .before .before .before .before .read-value .ensures)) (c .if1 .taken)
+returns-2 c =
+    let entry = c .before .before .before .before .before .before .before in
+    let read-n = rw (c .before .before .n .given .1) at (c .before .before .before .before .read-value .ensures) in
+    ranged-low (now (entry .args .input)) (entry .args .at) (length (now (entry .args .name))) (entry .args .least) (entry .args .most) (now (entry .args .name)) _ _ read-n (c .if1 .taken)
 
 returns-3 : tie.Need-returns-3
-returns-3 c = ranged-high (now (c .before .before .before .before .before .before .before .before .args .input)) (c .before .before .before .before .before .before .before .before .args .at) (length (now (c .before .before .before .before .before .before .before .before .args .name))) (c .before .before .before .before .before .before .before .before .args .least) (c .before .before .before .before .before .before .before .before .args .most) (now (c .before .before .before .before .before .before .before .before .args .name)) _ _ (rw (c .before .before .before .n .given .1) at (c .before .before .before .before .before .read-value .ensures)) (c .if2 .taken)
+returns-3 c =
+    let entry = c .before .before .before .before .before .before .before .before in
+    let read-n = rw (c .before .before .before .n .given .1) at (c .before .before .before .before .before .read-value .ensures) in
+    ranged-high (now (entry .args .input)) (entry .args .at) (length (now (entry .args .name))) (entry .args .least) (entry .args .most) (now (entry .args .name)) _ _ read-n (c .if2 .taken)
 
 returns-4 : tie.Need-returns-4
-returns-4 c = ranged-in (now (c .before .before .before .before .before .before .before .before .args .input)) (c .before .before .before .before .before .before .before .before .args .at) (length (now (c .before .before .before .before .before .before .before .before .args .name))) (c .before .before .before .before .before .before .before .before .args .least) (c .before .before .before .before .before .before .before .before .args .most) (now (c .before .before .before .before .before .before .before .before .args .name)) _ _ (rw (c .before .before .before .n .given .1) at (c .before .before .before .before .before .read-value .ensures)) (c .before .if1 .left) (c .if2 .left)
+returns-4 c =
+    let entry = c .before .before .before .before .before .before .before .before in
+    let read-n = rw (c .before .before .before .n .given .1) at (c .before .before .before .before .before .read-value .ensures) in
+    ranged-in (now (entry .args .input)) (entry .args .at) (length (now (entry .args .name))) (entry .args .least) (entry .args .most) (now (entry .args .name)) _ _ read-n (c .before .if1 .left) (c .if2 .left)
 
 pub read-ranged-spec : {M : Type 1} → statement M
 read-ranged-spec =

@@ -7,10 +7,10 @@ use Rattle.replay.proofs.replay.Statement.{statement}
 use Rattle.replay.proofs.replay.Tie as tie
 
 abbrev Inv-loop : tie.InvT-loop
-Inv-loop script store₀ slice₀ at₀ words₀ store slice at words = (length store ≡ length store₀) × (length slice ≡ length slice₀)
+Inv-loop script store₀ at₀ words₀ store at words = length store ≡ length store₀
 
 abbrev μ-loop : tie.MeasureT-loop
-μ-loop script store₀ slice₀ at₀ words₀ store slice at words = length script - at
+μ-loop script store₀ at₀ words₀ store at words = length script - at
 
 loop-holds : tie.Need-loop-holds Inv-loop μ-loop
 loop-holds c = search needs
@@ -60,9 +60,6 @@ loop-again-2 c = search needs
 same-length : tie.Need-same-length Inv-loop μ-loop
 same-length c = search needs
 
-same-length-2 : tie.Need-same-length-2 Inv-loop μ-loop
-same-length-2 c = search needs
-
 returns : tie.Need-returns Inv-loop μ-loop
 returns c = search needs
 
@@ -88,5 +85,4 @@ replay-spec =
     loop-less-2
     loop-again-2
     same-length
-    same-length-2
     returns)

@@ -11,13 +11,17 @@ directory-right-requires : tie.Need-directory-right-requires
 directory-right-requires c κs = search needs
 
 returns : tie.Need-returns
-returns c = fault-directory (c .before .before .before .args .g) (c .before .before .before .args .store .now) (told-no _ _ (c .before .directory-right .ensures) (c .if1 .taken))
+returns c =
+    let a = c .before .before .before .args in
+    fault-directory (a .g) (a .store .now) (told-no _ _ (c .before .directory-right .ensures) (c .if1 .taken))
 
 head-sound-requires : tie.Need-head-sound-requires
 head-sound-requires c κs = (c .before .before .before .pre, told-past _ _ (c .before .directory-right .ensures) (c .if1 .left))
 
 returns-2 : tie.Need-returns-2
-returns-2 c = fault-head (c .before .before .before .before .before .args .g) (c .before .before .before .before .before .args .store .now) (told-past _ _ (c .before .before .before .directory-right .ensures) (c .before .before .if1 .left)) (told-no _ _ (c .before .head-sound .ensures) (c .if2 .taken))
+returns-2 c =
+    let a = c .before .before .before .before .before .args in
+    fault-head (a .g) (a .store .now) (told-past _ _ (c .before .before .before .directory-right .ensures) (c .before .before .if1 .left)) (told-no _ _ (c .before .head-sound .ensures) (c .if2 .taken))
 
 levels-fault-requires : tie.Need-levels-fault-requires
 levels-fault-requires c κs = (c .before .before .before .before .before .pre, told-past _ _ (c .before .before .before .directory-right .ensures) (c .before .before .if1 .left))
@@ -27,19 +31,24 @@ enum-told c = search needs
 
 across-fault-requires : tie.Need-across-fault-requires
 across-fault-requires c κs =
-    let ready = levels-ready (c .before .before .before .before .before .before .before .before .args .g) (c .before .before .before .before .before .before .before .before .args .store .now) (told-past _ _ (c .before .before .before .before .before .before .directory-right .ensures) (c .before .before .before .before .before .if1 .left)) (told-past _ _ (c .before .before .before .before .head-sound .ensures) (c .before .before .before .if2 .left)) (sym (c .before .before .levels-fault .ensures) ∙ ap wholeTold (c .enum-told .given .1)) in
+    let a = c .before .before .before .before .before .before .before .before .args in
+    let ready = levels-ready (a .g) (a .store .now) (told-past _ _ (c .before .before .before .before .before .before .directory-right .ensures) (c .before .before .before .before .before .if1 .left)) (told-past _ _ (c .before .before .before .before .head-sound .ensures) (c .before .before .before .if2 .left)) (sym (c .before .before .levels-fault .ensures) ∙ ap wholeTold (c .enum-told .given .1)) in
     (c .before .before .before .before .before .before .before .before .pre, (ready .0, ready .1))
 
-enum-known-level : tie.Need-enum-known-level
-enum-known-level c = search needs
+enum-known-fault : tie.Need-enum-known-fault
+enum-known-fault c = search needs
 
 returns-3 : tie.Need-returns-3
 unfolding else
-returns-3 c = c .across-fault .ensures ∙ (rw (sym (c .before .before .before .levels-fault .ensures) ∙ ap wholeTold (c .before .enum-told .given .1)) at (fault-levels (c .before .before .before .before .before .before .before .before .before .args .g) (c .before .before .before .before .before .before .before .before .before .args .store .now) (told-past _ _ (c .before .before .before .before .before .before .before .directory-right .ensures) (c .before .before .before .before .before .before .if1 .left)) (told-past _ _ (c .before .before .before .before .before .head-sound .ensures) (c .before .before .before .before .if2 .left))))
+returns-3 c =
+    let a = c .before .before .before .before .before .before .before .before .before .args in
+    c .across-fault .ensures ∙ (rw (sym (c .before .before .before .levels-fault .ensures) ∙ ap wholeTold (c .before .enum-told .given .1)) at (fault-levels (a .g) (a .store .now) (told-past _ _ (c .before .before .before .before .before .before .before .directory-right .ensures) (c .before .before .before .before .before .before .if1 .left)) (told-past _ _ (c .before .before .before .before .before .head-sound .ensures) (c .before .before .before .before .if2 .left))))
 
 returns-4 : tie.Need-returns-4
 unfolding else
-returns-4 c = rw (sym (c .before .before .before .levels-fault .ensures) ∙ ap wholeTold (c .before .level .given .1)) at (fault-levels (c .before .before .before .before .before .before .before .before .before .args .g) (c .before .before .before .before .before .before .before .before .before .args .store .now) (told-past _ _ (c .before .before .before .before .before .before .before .directory-right .ensures) (c .before .before .before .before .before .before .if1 .left)) (told-past _ _ (c .before .before .before .before .before .head-sound .ensures) (c .before .before .before .before .if2 .left)))
+returns-4 c =
+    let a = c .before .before .before .before .before .before .before .before .before .args in
+    rw (sym (c .before .before .before .levels-fault .ensures) ∙ ap wholeTold (c .before .fault .given .1)) at (fault-levels (a .g) (a .store .now) (told-past _ _ (c .before .before .before .before .before .before .before .directory-right .ensures) (c .before .before .before .before .before .before .if1 .left)) (told-past _ _ (c .before .before .before .before .before .head-sound .ensures) (c .before .before .before .before .if2 .left)))
 
 pub whole-fault-spec : {M : Type 1} → statement M
 whole-fault-spec =
@@ -52,6 +61,6 @@ whole-fault-spec =
     levels-fault-requires
     enum-told
     across-fault-requires
-    enum-known-level
+    enum-known-fault
     returns-3
     returns-4)

@@ -5,27 +5,19 @@ use borrow.Author.Needs.{needs}
 use Rattle.sound.proofs.within_capacity.Statement.{statement}
 use Rattle.sound.proofs.within_capacity.Tie as tie
 
-cast-levels : tie.Need-cast-levels
-cast-levels c = search needs
-
-mul-capacity : tie.Need-mul-capacity
-mul-capacity c = search needs
-
-element-copy-out-capacity : tie.Need-element-copy-out-capacity
-element-copy-out-capacity c = search needs
+at-level-requires : tie.Need-at-level-requires
+at-level-requires c κs = search needs
 
 sub-if1 : tie.Need-sub-if1
 sub-if1 c = search needs
 
 returns : tie.Need-returns
 unfolding capacityHolds
-returns c = rw (eq-eqb _ _ (c .if1 .taken))
+returns c = rw (eq-eqb _ _ (c .if1 .taken), c .before .before .at-level .ensures)
 
 returns-2 : tie.Need-returns-2
 unfolding capacityHolds
-returns-2 c = rw (ne-eqb _ _ (c .if1 .left))
+returns-2 c = rw (ne-eqb _ _ (c .if1 .left), c .before .before .at-level .ensures)
 
 pub within-capacity-spec : {M : Type 1} → statement M
-within-capacity-spec =
-    tie.close
-    (tie.spec cast-levels mul-capacity element-copy-out-capacity sub-if1 returns returns-2)
+within-capacity-spec = tie.close (tie.spec at-level-requires sub-if1 returns returns-2)

@@ -1,5 +1,5 @@
 -- `is_first_right` tests a slot for a fence not above a pair. Assumes nothing.
-use Rattle.walk.specs.Passes.{fenceUpTo}
+use Rattle.form.specs.Passes.{fenceUpTo}
 use borrow.Author.Needs.{needs}
 use Rattle.walk.proofs.is_first_right.Statement.{statement}
 use Rattle.walk.proofs.is_first_right.Tie as tie

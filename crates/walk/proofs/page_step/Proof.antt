@@ -1,10 +1,11 @@
--- `page_step` gives what a page tells: its tests by `page-mark`, its answer by `page-bottom` and `page-tells`. Assumes nothing.
+-- `page_step` gives what a page tells: its tests by `page-broken` and `page-first-broken`, its answer by `page-bottom` and `page-tells`.
+-- Assumes nothing.
 use Prim.Native.Nat.{suc, _+_, _<_}
 use native.Mathlib.Numerals.{add-one}
 use mathlib.Core.Path.{_≡_, ap, _∙_}
 use mathlib.Core.Logic.{_≢_}
 use Rattle.laws.specs.Tests.{told-no, told-past}
-use Rattle.walk.specs.declared.PageRead.{PageRead}
+use Rattle.form.specs.declared.PageRead.{PageRead}
 use Rattle.walk.specs.Step.{bottom-within}
 use Rattle.walk.specs.Read.{page-broken, page-reach-small, page-bottom, page-first-broken, page-first, page-some, page-tells, page-within}
 use native.Mathlib.Omega.{arith}
@@ -19,7 +20,7 @@ returns : tie.Need-returns
 returns c =
     let a = c .before .before .before .before .args in
     let mark = c .before .before .page-scan .ensures .1 in
-    (page-broken (a .g) (a .store .now) (a .asked) (a .level) (a .page) (told-no _ _ mark (c .if1 .taken)), tt)
+    (page-broken (a .g) (a .store .now) (a .asked) (a .level) (a .page .0) (told-no _ _ mark (c .if1 .taken)), tt)
 
 page-place-requires : tie.Need-page-place-requires
 page-place-requires c κs = search needs
@@ -27,31 +28,24 @@ page-place-requires c κs = search needs
 add-place : tie.Need-add-place
 add-place c = search needs
 
-cast-levels : tie.Need-cast-levels
-cast-levels c = search needs
-
 add-if2 : tie.Need-add-if2
 add-if2 c = search needs
 
-cast-tell-bottom : tie.Need-cast-tell-bottom
-cast-tell-bottom c = search needs
-
 tell-bottom-requires : tie.Need-tell-bottom-requires
 tell-bottom-requires c κs =
-    let a = c .before .before .before .before .before .before .before .before .args in
-    let e = c .before .before .before .before .before .before .page-scan .ensures .0 in
-    let m = c .before .before .before .before .before .before .page-scan .ensures .1 in
-    let formed = told-past _ _ m (c .before .before .before .before .if1 .left) in
-    omega (arith, ap (λ (s : PageRead). s .reach) e, page-reach-small (a .g) (a .store .now) (a .asked) (a .level) (a .page) formed, c .before .before .before .page-place .ensures .1)
+    let a = c .before .before .before .before .before .before .before .args in
+    let scan = c .before .before .before .before .before .page-scan .ensures in
+    let formed = told-past _ _ (scan .1) (c .before .before .before .if1 .left) in
+    let reaches = page-reach-small (a .g) (a .store .now) (a .asked) (a .level) (a .page .0) formed in
+    omega (arith, ap (λ (s : PageRead). s .reach) (scan .0), reaches, c .before .before .page-place .ensures .1)
 
 returns-2 : tie.Need-returns-2
 returns-2 c =
-    let a = c .before .before .before .before .before .before .before .before .before .args in
-    let e = c .before .before .before .before .before .before .before .page-scan .ensures .0 in
-    let m = c .before .before .before .before .before .before .before .page-scan .ensures .1 in
-    let formed = told-past _ _ m (c .before .before .before .before .before .if1 .left) in
-    let b : a .g .levels ≡ suc (a .level) = omega (arith, c .before .before .if2 .taken) in (
-      c .tell-bottom .ensures ∙ rw (e, c .before .before .before .before .page-place .ensures .0) (page-bottom (a .g) (a .store .now) (a .asked) (a .level) (a .page) formed b),
+    let a = c .before .before .before .before .before .before .before .before .args in
+    let scan = c .before .before .before .before .before .before .page-scan .ensures in
+    let formed = told-past _ _ (scan .1) (c .before .before .before .before .if1 .left) in
+    let b : a .g .levels ≡ suc (a .level) = omega (arith, c .before .if2 .taken) in (
+      c .tell-bottom .ensures ∙ rw (scan .0, c .before .before .before .page-place .ensures .0) (page-bottom (a .g) (a .store .now) (a .asked) (a .level) (a .page .0) formed b),
       rw (c .tell-bottom .ensures) (bottom-within _ _ _ _ _),
     )
 
@@ -61,43 +55,40 @@ is-first-right-requires c κs = search needs
 returns-3 : tie.Need-returns-3
 returns-3 c =
     let a = c .before .before .before .before .before .before .before .before .before .args in
-    let m = c .before .before .before .before .before .before .before .page-scan .ensures .1 in
-    let formed = told-past _ _ m (c .before .before .before .before .before .if1 .left) in
+    let formed = told-past _ _ (c .before .before .before .before .before .before .before .page-scan .ensures .1) (c .before .before .before .before .before .if1 .left) in
     let d : a .level + 1 ≢ a .g .levels = c .before .before .if2 .left in
     let above : suc (a .level) < a .g .levels = omega (arith, c .before .before .before .before .before .before .before .before .before .pre .1 .1) in
-    let f = rw (c .before .before .before .before .page-place .ensures .0) at (c .before .is-first-right .ensures) in
-    (page-first-broken (a .g) (a .store .now) (a .asked) (a .level) (a .page) formed above (told-no _ _ f (c .if3 .taken)), tt)
-
-cast-tell-above : tie.Need-cast-tell-above
-cast-tell-above c = search needs
+    let first = rw (c .before .before .before .before .page-place .ensures .0) at (c .before .is-first-right .ensures) in
+    (page-first-broken (a .g) (a .store .now) (a .asked) (a .level) (a .page .0) formed above (told-no _ _ first (c .if3 .taken)), tt)
 
 tell-above-requires : tie.Need-tell-above-requires
 tell-above-requires c κs =
-    let a = c .before .before .before .before .before .before .before .before .before .before .args in
-    let e = c .before .before .before .before .before .before .before .before .page-scan .ensures .0 in
-    let m = c .before .before .before .before .before .before .before .before .page-scan .ensures .1 in
-    let formed = told-past _ _ m (c .before .before .before .before .before .before .if1 .left) in
-    let d : a .level + 1 ≢ a .g .levels = c .before .before .before .if2 .left in
-    let above : suc (a .level) < a .g .levels = omega (arith, c .before .before .before .before .before .before .before .before .before .before .pre .1 .1) in
-    let first = told-past _ _ (rw (c .before .before .before .before .before .page-place .ensures .0) at (c .before .before .is-first-right .ensures)) (c .before .if3 .left) in (
+    let a = c .before .before .before .before .before .before .before .before .before .args in
+    let scan = c .before .before .before .before .before .before .before .page-scan .ensures in
+    let place = c .before .before .before .before .page-place .ensures in
+    let formed = told-past _ _ (scan .1) (c .before .before .before .before .before .if1 .left) in
+    let d : a .level + 1 ≢ a .g .levels = c .before .before .if2 .left in
+    let above : suc (a .level) < a .g .levels = omega (arith, c .before .before .before .before .before .before .before .before .before .pre .1 .1) in
+    let first = told-past _ _ (rw (place .0) at (c .before .is-first-right .ensures)) (c .if3 .left) in
+    let reaches = page-reach-small (a .g) (a .store .now) (a .asked) (a .level) (a .page .0) formed in (
       (
-        rw e (page-some (a .g) (a .store .now) (a .asked) (a .level) (a .page) formed above first),
-        omega (arith, ap (λ (s : PageRead). s .reach) e, page-reach-small (a .g) (a .store .now) (a .asked) (a .level) (a .page) formed, c .before .before .before .before .before .page-place .ensures .1),
+        rw (scan .0) (page-some (a .g) (a .store .now) (a .asked) (a .level) (a .page .0) formed above first),
+        omega (arith, ap (λ (s : PageRead). s .reach) (scan .0), reaches, place .1),
       ),
-      rw (c .before .before .before .before .before .page-place .ensures .0) (page-first (a .g) (a .store .now) (a .asked) (a .level) (a .page) formed above first),
+      rw (place .0) (page-first (a .g) (a .store .now) (a .asked) (a .level) (a .page .0) formed above first),
     )
 
 returns-4 : tie.Need-returns-4
 returns-4 c =
-    let a = c .before .before .before .before .before .before .before .before .before .before .before .args in
-    let e = c .before .before .before .before .before .before .before .before .before .page-scan .ensures .0 in
-    let m = c .before .before .before .before .before .before .before .before .before .page-scan .ensures .1 in
-    let formed = told-past _ _ m (c .before .before .before .before .before .before .before .if1 .left) in
-    let d : a .level + 1 ≢ a .g .levels = c .before .before .before .before .if2 .left in
-    let above : suc (a .level) < a .g .levels = omega (arith, c .before .before .before .before .before .before .before .before .before .before .before .pre .1 .1) in
-    let first = told-past _ _ (rw (c .before .before .before .before .before .before .page-place .ensures .0) at (c .before .before .before .is-first-right .ensures)) (c .before .before .if3 .left) in (
-      c .tell-above .ensures ∙ rw (e, c .before .before .before .before .before .before .page-place .ensures .0) (page-tells (a .g) (a .store .now) (a .asked) (a .level) (a .page) formed above first),
-      rw (c .tell-above .ensures, e, c .before .before .before .before .before .before .page-place .ensures .0, add-one (a .level)) (page-within (a .g) (a .store .now) (a .asked) (a .level) (a .page) formed above first),
+    let a = c .before .before .before .before .before .before .before .before .before .before .args in
+    let scan = c .before .before .before .before .before .before .before .before .page-scan .ensures in
+    let place = c .before .before .before .before .before .page-place .ensures in
+    let formed = told-past _ _ (scan .1) (c .before .before .before .before .before .before .if1 .left) in
+    let d : a .level + 1 ≢ a .g .levels = c .before .before .before .if2 .left in
+    let above : suc (a .level) < a .g .levels = omega (arith, c .before .before .before .before .before .before .before .before .before .before .pre .1 .1) in
+    let first = told-past _ _ (rw (place .0) at (c .before .before .is-first-right .ensures)) (c .before .if3 .left) in (
+      c .tell-above .ensures ∙ rw (scan .0, place .0) (page-tells (a .g) (a .store .now) (a .asked) (a .level) (a .page .0) formed above first),
+      rw (c .tell-above .ensures, scan .0, place .0, add-one (a .level)) (page-within (a .g) (a .store .now) (a .asked) (a .level) (a .page .0) formed above first),
     )
 
 pub page-step-spec : {M : Type 1} → statement M
@@ -108,13 +99,10 @@ page-step-spec =
     returns
     page-place-requires
     add-place
-    cast-levels
     add-if2
-    cast-tell-bottom
     tell-bottom-requires
     returns-2
     is-first-right-requires
     returns-3
-    cast-tell-above
     tell-above-requires
     returns-4)

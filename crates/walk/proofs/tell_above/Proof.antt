@@ -7,6 +7,9 @@ use Rattle.walk.proofs.tell_above.Tie as tie
 sub-last : tie.Need-sub-last
 sub-last c = search needs
 
+cast-met-at : tie.Need-cast-met-at
+cast-met-at c = search needs
+
 mul-met-at : tie.Need-mul-met-at
 mul-met-at c = search needs
 
@@ -38,6 +41,7 @@ tell-above-spec =
     tie.close
     (tie.spec
     sub-last
+    cast-met-at
     mul-met-at
     add-met-at
     met-at-requires

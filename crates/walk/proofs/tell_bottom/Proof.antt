@@ -12,6 +12,9 @@ returns c = rw (eq-eqb _ _ (c .if1 .taken))
 sub-last : tie.Need-sub-last
 sub-last c = search needs
 
+cast-met-at : tie.Need-cast-met-at
+cast-met-at c = search needs
+
 mul-met-at : tie.Need-mul-met-at
 mul-met-at c = search needs
 
@@ -41,6 +44,7 @@ tell-bottom-spec =
     (tie.spec
     returns
     sub-last
+    cast-met-at
     mul-met-at
     add-met-at
     met-at-requires

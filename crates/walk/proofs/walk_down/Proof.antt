@@ -3,11 +3,11 @@ use borrow.Author.Needs.{needs}
 use Rattle.walk.proofs.walk_down.Statement.{statement}
 use Rattle.walk.proofs.walk_down.Tie as tie
 
-walk-trail-requires : tie.Need-walk-trail-requires
-walk-trail-requires c κs = search needs
+walk-survey-requires : tie.Need-walk-survey-requires
+walk-survey-requires c κs = search needs
 
 returns : tie.Need-returns
-returns c = c .walk-trail .ensures .0
+returns c = c .walk-survey .ensures .0
 
 pub walk-down-spec : {M : Type 1} → statement M
-walk-down-spec = tie.close (tie.spec walk-trail-requires returns)
+walk-down-spec = tie.close (tie.spec walk-survey-requires returns)

@@ -15,7 +15,9 @@ abbrev μ-loop : tie.MeasureT-loop
 μ-loop words₀ place from n j₀ words j = n - j
 
 loop-holds : tie.Need-loop-holds Inv-loop μ-loop
-loop-holds c = record { not-past = omega arith; long = refl; copies = copy-begins (c .args .place) (now (c .args .from)) (c .args .n) (now (c .args .words)) }
+loop-holds c =
+    let a = c .args in
+    record { not-past = omega arith; long = refl; copies = copy-begins (a .place) (now (a .from)) (a .n) (now (a .words)) }
 
 mul-words : tie.Need-mul-words Inv-loop μ-loop
 mul-words c = search needs
@@ -39,13 +41,18 @@ loop-less : tie.Need-loop-less Inv-loop μ-loop
 loop-less c = search needs
 
 loop-again : tie.Need-loop-again Inv-loop μ-loop
-loop-again c = record { not-past = omega arith; long = simp length-set (c .before .before .loop .inv .long); copies = copy-goes-on (c .before .before .before .args .place) (now (c .before .before .before .args .from)) (c .before .before .before .args .n) (c .before .before .loop .words) (c .before .before .loop .j) (omega arith) (omega arith) ∙ (c .before .before .loop .inv .copies) }
+loop-again c =
+    let a = c .before .before .before .args in
+    let loop = c .before .before .loop in
+    record { not-past = omega arith; long = simp length-set (loop .inv .long); copies = copy-goes-on (a .place) (now (a .from)) (a .n) (loop .words) (loop .j) (omega arith) (omega arith) ∙ (loop .inv .copies) }
 
 same-length : tie.Need-same-length Inv-loop μ-loop
 same-length c = search needs
 
 returns : tie.Need-returns Inv-loop μ-loop
-returns c = copy-ends (c .before .before .args .place) (now (c .before .before .args .from)) (c .before .before .args .n) (c .before .loop .words) (c .before .loop .j) (omega (arith, c .before .loop .inv .not-past)) ∙ (c .before .loop .inv .copies)
+returns c =
+    let a = c .before .before .args in
+    copy-ends (a .place) (now (a .from)) (a .n) (c .before .loop .words) (c .before .loop .j) (omega (arith, c .before .loop .inv .not-past)) ∙ (c .before .loop .inv .copies)
 
 pub copy-in-spec : {M : Type 1} → statement M
 copy-in-spec =

@@ -3,7 +3,7 @@ use Prim.Native.Nat.{_-_, _≤_}
 use mathlib.Core.Path.{_≡_, refl}
 use lib.ListN.{length}
 use Rattle.laws.specs.Tests.{told-no, told-past}
-use Rattle.written.specs.Stream.{fence-left}
+use Rattle.layout.specs.Stream.{fence-left}
 use Rattle.writer.specs.Coming.{SameFinish, same-further, fence-fits}
 use Rattle.writer.specs.Writing.{room-less}
 use borrow.Author.Needs.{needs}

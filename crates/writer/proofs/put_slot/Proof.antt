@@ -25,7 +25,9 @@ add-write-slot-2 : tie.Need-add-write-slot-2
 add-write-slot-2 c = search needs
 
 write-slot-requires : tie.Need-write-slot-requires
-write-slot-requires c κs = (omega (arith, c .before .before .pre .0 .enough), c .before .before .pre .1)
+write-slot-requires c κs =
+    let pre = c .before .before .pre in
+    (omega (arith, pre .0 .enough), pre .1)
 
 add-work : tie.Need-add-work
 add-work c = search needs

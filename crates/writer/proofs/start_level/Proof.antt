@@ -11,7 +11,9 @@ erase-requires : tie.Need-erase-requires
 erase-requires c κs = search needs
 
 slice-write-work : tie.Need-slice-write-work
-slice-write-work c = rw (c .before .before .erase .ensures) (simp length-sets (omega (arith, c .before .before .before .before .before .pre .whole, c .before .before .before .before .before .pre .some)))
+slice-write-work c =
+    let pre = c .before .before .before .before .before .pre in
+    rw (c .before .before .erase .ensures) (simp length-sets (omega (arith, pre .whole, pre .some)))
 
 same-length : tie.Need-same-length
 same-length c = search needs

@@ -15,16 +15,22 @@ start-level-requires c κs = c .before .before .before .pre .1 .1 .0
 
 write-slots-requires : tie.Need-write-slots-requires
 write-slots-requires c κs =
-    let room : roomIn (c .before .before .before .start-level .last .0) ≡ roomIn (now (c .before .before .before .before .before .before .before .args .work)) = room-started (now (c .before .before .before .before .before .before .before .args .work)) (c .before .before .before .start-level .last .0) (c .before .before .before .start-level .ensures) in
-    (c .before .before .before .before .before .before .before .pre .0, (c .before .before .before .before .before .before .before .pre .1 .0, (c .before .before .before .start-level .ensures ∙ ap (levelWords []) (sym room), (omega (arith, room, c .before .before .before .before .before .before .before .pre .1 .1 .0 .few), omega (arith, room, c .before .before .before .before .before .before .before .pre .1 .1 .1)))))
+    let a = c .before .before .before .before .before .before .before .args in
+    let pre = c .before .before .before .before .before .before .before .pre in
+    let start-level = c .before .before .before .start-level in
+    let room : roomIn (start-level .last .0) ≡ roomIn (now (a .work)) = room-started (now (a .work)) (start-level .last .0) (start-level .ensures) in
+    (pre .0, (pre .1 .0, (start-level .ensures ∙ ap (levelWords []) (sym room), (omega (arith, room, pre .1 .1 .0 .few), omega (arith, room, pre .1 .1 .1)))))
 
 same-length : tie.Need-same-length
 same-length c = search needs
 
 returns : tie.Need-returns
 returns c =
-    let room : roomIn (c .before .before .before .before .before .before .start-level .last .0) ≡ roomIn (now (c .before .before .before .before .before .before .before .before .before .before .args .work)) = room-started (now (c .before .before .before .before .before .before .before .before .before .before .args .work)) (c .before .before .before .before .before .before .start-level .last .0) (c .before .before .before .before .before .before .start-level .ensures) in
-    (c .before .before .write-slots .ensures .0 ∙ ap (levelWords (levelFrom (now (c .before .before .before .before .before .before .before .before .before .before .args .store)) (c .before .before .before .before .before .before .before .before .before .before .args .source))) room, c .before .before .write-slots .ensures .1)
+    let a = c .before .before .before .before .before .before .before .before .before .before .args in
+    let start-level = c .before .before .before .before .before .before .start-level in
+    let write-slots = c .before .before .write-slots in
+    let room : roomIn (start-level .last .0) ≡ roomIn (now (a .work)) = room-started (now (a .work)) (start-level .last .0) (start-level .ensures) in
+    (write-slots .ensures .0 ∙ ap (levelWords (levelFrom (now (a .store)) (a .source))) room, write-slots .ensures .1)
 
 pub write-level-spec : {M : Type 1} → statement M
 write-level-spec =

@@ -5,6 +5,9 @@ use borrow.Author.Needs.{needs}
 use Rattle.written.proofs.head_written.Statement.{statement}
 use Rattle.written.proofs.head_written.Tie as tie
 
+cast-row-in-room : tie.Need-cast-row-in-room
+cast-row-in-room c = search needs
+
 mul-row-in-room : tie.Need-mul-row-in-room
 mul-row-in-room c = search needs
 
@@ -19,16 +22,21 @@ add-row-in-room-2 c = search needs
 
 row-in-room-requires : tie.Need-row-in-room-requires
 unfolding headRow
-row-in-room-requires c κs = (head-row-inside _ _ _ _ _ _ (c .before .pre), c .before .pre .room-inside)
+row-in-room-requires c κs =
+    let pre = c .before .before .pre in
+    (head-row-inside _ _ _ _ _ _ pre, pre .room-inside)
 
 returns : tie.Need-returns
 unfolding headRow
-returns c = (c .row-in-room .ensures .0 ∙ sym (head-decided _ _ _ _ _ _ (c .before .before .pre)), λ z. c .row-in-room .ensures .1 z ∙ head-counts _ _ _ _ _ _ (c .before .before .pre))
+returns c =
+    let pre = c .before .before .before .pre in
+    (c .row-in-room .ensures .0 ∙ sym (head-decided _ _ _ _ _ _ pre), λ z. c .row-in-room .ensures .1 z ∙ head-counts _ _ _ _ _ _ pre)
 
 pub head-written-spec : {M : Type 1} → statement M
 head-written-spec =
     tie.close
     (tie.spec
+    cast-row-in-room
     mul-row-in-room
     add-row-in-room
     mul-row-in-room-2

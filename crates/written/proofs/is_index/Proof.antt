@@ -1,5 +1,5 @@
 -- `is_index` tells whether a slot is the one that its index entry is written in. Assumes nothing.
-use Rattle.written.specs.Stream.{isIndex}
+use Rattle.layout.specs.Stream.{isIndex}
 use borrow.Author.Needs.{needs}
 use Rattle.written.proofs.is_index.Statement.{statement}
 use Rattle.written.proofs.is_index.Tie as tie

@@ -2,8 +2,8 @@
 use Prim.Native.Nat.{_-_, _≤_}
 use native.Mathlib.Nat.{sub-zero}
 use mathlib.Core.Path.{_≡_, refl, _∙_}
-use Rattle.written.specs.Written.{countOf}
-use Rattle.written.specs.Pages.{lastCount}
+use Rattle.layout.specs.Words.{countOf}
+use Rattle.layout.specs.Pages.{lastCount}
 use Rattle.written.specs.Tested.{filled, fullPages, full-passes, full-stops, full-ends}
 use borrow.Author.Needs.{needs}
 use native.Mathlib.Omega.{arith}
@@ -49,7 +49,9 @@ loop-less c = omega (arith, c .before .before .loop-test .taken)
 
 loop-again : tie.Need-loop-again Inv-loop μ-loop
 unfolding countOf
-loop-again c = (omega (arith, c .before .before .loop-test .taken), c .before .before .before .loop .inv .1 ∙ full-passes _ _ _ _ (c .before .before .loop-test .taken) (c .if1 .left))
+loop-again c =
+    let loop-test = c .before .before .loop-test in
+    (omega (arith, loop-test .taken), c .before .before .before .loop .inv .1 ∙ full-passes _ _ _ _ (loop-test .taken) (c .if1 .left))
 
 cast-last-right : tie.Need-cast-last-right Inv-loop μ-loop
 cast-last-right c = omega arith

@@ -10,13 +10,17 @@ row-written-requires : tie.Need-row-written-requires
 row-written-requires c κs = search needs
 
 returns : tie.Need-returns
-returns c = (not-true _ (c .if1 .taken) ∙ rw (told-no _ _ (c .before .before .row-written .ensures .0) (c .if1 .taken)) refl, c .before .before .row-written .ensures .1)
+returns c =
+    let row-written = c .before .before .row-written in
+    (not-true _ (c .if1 .taken) ∙ rw (told-no _ _ (row-written .ensures .0) (c .if1 .taken)) refl, row-written .ensures .1)
 
 unused-requires : tie.Need-unused-requires
 unused-requires c κs = search needs
 
 returns-2 : tie.Need-returns-2
-returns-2 c = (rw (told-past _ _ (c .before .before .before .row-written .ensures .0) (c .before .if1 .left)) (c .unused .ensures), λ z. c .before .before .before .row-written .ensures .1 (not-false _ (c .before .if1 .left)))
+returns-2 c =
+    let row-written = c .before .before .before .row-written in
+    (rw (told-past _ _ (row-written .ensures .0) (c .before .if1 .left)) (c .unused .ensures), λ z. row-written .ensures .1 (not-false _ (c .before .if1 .left)))
 
 pub row-in-room-spec : {M : Type 1} → statement M
 row-in-room-spec = tie.close (tie.spec row-written-requires returns unused-requires returns-2)

@@ -1,7 +1,7 @@
 -- `same_slot` tells whether two slots have one badge, floor, kind and page number. Assumes nothing.
 use mathlib.Core.Path.{refl}
 use borrow.Author.Tests.{eq-eqb, ne-eqb}
-use Rattle.written.specs.Stream.{sameSlot}
+use Rattle.layout.specs.Stream.{sameSlot}
 use borrow.Author.Needs.{needs}
 use Rattle.written.proofs.same_slot.Statement.{statement}
 use Rattle.written.proofs.same_slot.Tie as tie

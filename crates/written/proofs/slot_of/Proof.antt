@@ -5,6 +5,12 @@ use borrow.Author.Needs.{needs}
 use Rattle.written.proofs.slot_of.Statement.{statement}
 use Rattle.written.proofs.slot_of.Tie as tie
 
+cast-slots : tie.Need-cast-slots
+cast-slots c = search needs
+
+div-read-slot : tie.Need-div-read-slot
+div-read-slot c = search needs
+
 mul-read-slot : tie.Need-mul-read-slot
 unfolding rowPlace
 mul-read-slot c = omega (arith, rw (c .if1 .taken) at (c .before .before .pre))
@@ -16,6 +22,9 @@ add-read-slot c = omega (arith, rw (c .before .if1 .taken) at (c .before .before
 add-read-slot-2 : tie.Need-add-read-slot-2
 unfolding rowPlace
 add-read-slot-2 c = omega (arith, rw (c .before .if1 .taken) at (c .before .before .before .pre))
+
+rem-read-slot : tie.Need-rem-read-slot
+rem-read-slot c = search needs
 
 mul-read-slot-2 : tie.Need-mul-read-slot-2
 mul-read-slot-2 c = search needs
@@ -52,9 +61,12 @@ pub slot-of-spec : {M : Type 1} → statement M
 slot-of-spec =
     tie.close
     (tie.spec
+    cast-slots
+    div-read-slot
     mul-read-slot
     add-read-slot
     add-read-slot-2
+    rem-read-slot
     mul-read-slot-2
     add-read-slot-3
     read-slot-requires

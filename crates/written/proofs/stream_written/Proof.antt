@@ -28,7 +28,9 @@ is-fence-requires : tie.Need-is-fence-requires Inv-loop μ-loop
 is-fence-requires c κs = search needs
 
 entry-behind-requires : tie.Need-entry-behind-requires Inv-loop μ-loop
-entry-behind-requires c κs = (c .before .before .before .before .before .before .before .before .before .pre, (c .before .before .before .before .before .before .loop .inv .inside, c .before .before .before .before .before .before .loop .inv .next))
+entry-behind-requires c κs =
+    let loop = c .before .before .before .before .before .before .loop in
+    (c .before .before .before .before .before .before .before .before .before .pre, (loop .inv .inside, loop .inv .next))
 
 is-wanted-requires : tie.Need-is-wanted-requires Inv-loop μ-loop
 is-wanted-requires c κs = c .before .before .before .before .before .before .before .before .before .before .pre

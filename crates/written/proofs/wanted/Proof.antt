@@ -3,14 +3,16 @@ use mathlib.Core.Path.{sym, _∙_}
 use Rattle.laws.specs.Tests.{told-yes, told-no, told-past}
 use native.Mathlib.Omega.{arith}
 use Rattle.written.specs.Row.{firstBelow}
-use Rattle.written.specs.Stream.{fence-left}
+use Rattle.layout.specs.Stream.{fence-left}
 use Rattle.written.specs.Position.{wanted-last, wanted-fence, wanted-inner, wanted-index}
 use borrow.Author.Needs.{needs}
 use Rattle.written.proofs.wanted.Statement.{statement}
 use Rattle.written.proofs.wanted.Tie as tie
 
 fence-of-requires : tie.Need-fence-of-requires
-fence-of-requires c κs = omega (arith, c .before .before .before .pre .0 .below-inside, c .before .before .before .pre .1 (c .if1 .taken))
+fence-of-requires c κs =
+    let pre = c .before .before .before .pre in
+    omega (arith, pre .0 .below-inside, pre .1 (c .if1 .taken))
 
 returns : tie.Need-returns
 unfolding firstBelow
@@ -37,14 +39,18 @@ inner-fence-requires c κs = search needs
 
 returns-3 : tie.Need-returns-3
 unfolding firstBelow
-returns-3 c = c .inner-fence .ensures ∙ rw (c .before .before .before .before .before .before .slot-of .ensures) (wanted-inner _ _ _ _ _ (c .before .before .before .before .before .before .before .if1 .left) (rw (c .before .before .before .before .before .before .slot-of .ensures) at (told-past _ _ (c .before .before .before .before .entry-next .ensures) (c .before .before .before .if2 .left))) (told-yes _ _ (c .before .before .fenced-at .ensures) (c .before .if3 .taken)))
+returns-3 c =
+    let slot-of = c .before .before .before .before .before .before .slot-of in
+    c .inner-fence .ensures ∙ rw (slot-of .ensures) (wanted-inner _ _ _ _ _ (c .before .before .before .before .before .before .before .if1 .left) (rw (slot-of .ensures) at (told-past _ _ (c .before .before .before .before .entry-next .ensures) (c .before .before .before .if2 .left))) (told-yes _ _ (c .before .before .fenced-at .ensures) (c .before .if3 .taken)))
 
 index-of-requires : tie.Need-index-of-requires
 index-of-requires c κs = search needs
 
 returns-4 : tie.Need-returns-4
 unfolding firstBelow
-returns-4 c = c .index-of .ensures ∙ rw (c .before .before .before .before .before .before .slot-of .ensures) (wanted-index _ _ _ _ _ (c .before .before .before .before .before .before .before .if1 .left) (rw (c .before .before .before .before .before .before .slot-of .ensures) at (told-past _ _ (c .before .before .before .before .entry-next .ensures) (c .before .before .before .if2 .left))) (sym (c .before .before .fenced-at .ensures) ∙ c .before .if3 .left))
+returns-4 c =
+    let slot-of = c .before .before .before .before .before .before .slot-of in
+    c .index-of .ensures ∙ rw (slot-of .ensures) (wanted-index _ _ _ _ _ (c .before .before .before .before .before .before .before .if1 .left) (rw (slot-of .ensures) at (told-past _ _ (c .before .before .before .before .entry-next .ensures) (c .before .before .before .if2 .left))) (sym (c .before .before .fenced-at .ensures) ∙ c .before .if3 .left))
 
 pub wanted-spec : {M : Type 1} → statement M
 wanted-spec =

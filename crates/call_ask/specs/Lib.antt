@@ -1,0 +1,2 @@
+-- Ask on any words (Ask).
+pub mod Ask

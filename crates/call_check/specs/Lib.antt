@@ -1,0 +1,3 @@
+-- Check on any words (Check), and list (List).
+pub mod Check
+pub mod List

@@ -1,0 +1,2 @@
+-- Format on any words (Format).
+pub mod Format

@@ -1,0 +1,160 @@
+// What put, drop and ask test before they look for a pair: the directory, the head, and the form of a page. A pass over the head or a page
+// also tells how far a pair reaches in it.
+ghost use Prim.Native.Nat.{_+_, _<_, _≤_, min};
+ghost use mathlib.Core.Path.{_≡_};
+ghost use lib.ListN.{length};
+ghost use Rattle.geometry.specs.Geometry.{room};
+ghost use Rattle.geometry.specs.Places.{wordsInSlot, wordsInPage, pagePlace};
+ghost use Rattle.geometry.specs.Lent.{Lent};
+ghost use Rattle.slot.specs.Slot.{slotAt};
+ghost use Rattle.rules.specs.Sound.{directoryRight, pagesRight, headRight, pageFormed};
+ghost use Rattle.form.specs.Passes.{countFits, leastFence, pageScanned, headScanned};
+use geometry::FIRST_SLOT;
+use geometry::Geometry;
+use geometry::HEAD_COUNT;
+use geometry::HEAD_START;
+use geometry::LIVE;
+use geometry::MODE;
+use geometry::OPEN_MODE;
+use geometry::PAGE_COUNTS;
+use geometry::PAGE_SLOTS;
+use geometry::PAGE_WORDS;
+use geometry::Plan;
+use geometry::at_level;
+use geometry::level_place;
+use laws::both;
+use laws::either;
+use page::is_fence;
+use page::scan_head;
+use page::scan_page;
+use slot::Pair;
+use slot::Pid;
+use slot::least_pair;
+use slot::read_slot;
+use slot::same_pair;
+
+// What a pass over a page tells of it: whether its count, slot order and tags are right, and how many of its slots are at most the pair asked.
+pub struct PageRead {
+    pub formed: bool,
+    pub reach: u32,
+}
+
+// What a pass over the head tells of it: whether it is right, its index entries, and how many of its slots are at most the pair asked.
+pub struct HeadRead {
+    pub formed: bool,
+    pub entries: u32,
+    pub reach: u32,
+}
+
+// Whether the directory is right: live ≤ M; page counts are 1..Pg, or 0 without the level; the mode's word is an open store's.
+pub fn directory_right(store: &[u32], g: Geometry, plan: Plan) -> bool
+    requires { ⌜ Lent g plan (now store) ⌝ }
+    ensures { λ r. ⌜ r ≡ directoryRight g (now (store .entry)) ⌝ }
+{
+    let capacities = plan.capacities;
+    let most = at_level(capacities, g.levels - 1);
+    let first = pages_right(store, g, plan, 1);
+    let second = pages_right(store, g, plan, 2);
+    let third = pages_right(store, g, plan, 3);
+    let pages = both(first, both(second, third));
+    both(both(store[LIVE] <= most, pages), store[MODE] == OPEN_MODE)
+}
+
+// Whether the directory's page count of a level is 1..Pg, or 0 without the level.
+fn pages_right(store: &[u32], g: Geometry, plan: Plan, level: u32) -> bool
+    requires { ⌜ Lent g plan (now store) ⌝ }
+    requires { ⌜ level ≤ 3 ⌝ }
+    ensures { λ r. ⌜ r ≡ pagesRight g (now (store .entry)) level ⌝ }
+{
+    let pages = store[PAGE_COUNTS + level as usize];
+    if level < g.levels {
+        let rooms = plan.rooms;
+        both(1 <= pages, pages <= at_level(rooms, level))
+    } else {
+        pages == 0
+    }
+}
+
+// The first word of a page of a lower level.
+pub fn page_place(store: &[u32], g: Geometry, plan: Plan, level: u32, page: Pid) -> usize
+    requires { ⌜ Lent g plan (now store) ⌝ }
+    requires { ⌜ (1 ≤ level) × (level < g .levels) × (page .0 < room g level) ⌝ }
+    ensures exact { λ r. ⌜ r ≡ pagePlace g level (page .0) ⌝ }
+    ensures inside { λ r. ⌜ r + wordsInPage ≤ length (now (store .entry)) ⌝ }
+{
+    let own = level_place(store, g, plan, level);
+    own.start as usize + PAGE_WORDS * page.0 as usize
+}
+
+// A pass over a page of a lower level for a pair.
+pub fn page_scan(
+    store: &[u32],
+    g: Geometry,
+    plan: Plan,
+    asked: Pair,
+    level: u32,
+    page: Pid,
+) -> PageRead
+    requires { ⌜ Lent g plan (now store) ⌝ }
+    requires { ⌜ (1 ≤ level) × (level < g .levels) × (page .0 < room g level) ⌝ }
+    ensures exact { λ r. ⌜ r ≡ pageScanned g (now (store .entry)) asked level (page .0) ⌝ }
+    ensures mark { λ r. ⌜ r .formed ≡ pageFormed g (now (store .entry)) level (page .0) ⌝ }
+{
+    let place = page_place(store, g, plan, level, page);
+    let own = level_place(store, g, plan, level);
+    let below = level_place(store, g, plan, level + 1);
+    let count = store[place];
+    let slots = lesser(count, PAGE_SLOTS) as usize;
+    let scan = scan_page(store, place + FIRST_SLOT, slots, asked, below.pages);
+    let alone = both(level + 1 == g.levels, own.pages == 1);
+    PageRead {
+        formed: both(count_right(count, alone), scan.formed),
+        reach: scan.reach,
+    }
+}
+
+// Whether a page's count is 1..21, or 0 in a bottom of one page, where the page stands alone.
+fn count_right(count: u32, alone: bool) -> bool
+    ensures { λ r. ⌜ r ≡ countFits count alone ⌝ }
+{
+    both(count <= PAGE_SLOTS, either(1 <= count, alone))
+}
+
+// A pass over the head for a pair.
+pub fn head_scan(store: &[u32], g: Geometry, plan: Plan, asked: Pair) -> HeadRead
+    requires { ⌜ Lent g plan (now store) ⌝ }
+    ensures exact { λ r. ⌜ r ≡ headScanned g (now (store .entry)) asked ⌝ }
+    ensures mark { λ r. ⌜ r .formed ≡ headRight g (now (store .entry)) ⌝ }
+{
+    let count = store[HEAD_COUNT];
+    let below = level_place(store, g, plan, 1);
+    let head_room = plan.head_room;
+    let slots = lesser(count, head_room);
+    let scan = scan_head(store, HEAD_START, slots as usize, asked);
+    let entries = slots - scan.fences;
+    let few = both(count <= head_room, entries < g.head);
+    let turn = both(scan.formed, scan.fences == below.pages);
+    let least = both(1 <= slots, is_least_fence(store, HEAD_START));
+    HeadRead {
+        formed: both(both(few, turn), least),
+        entries,
+        reach: scan.reach,
+    }
+}
+
+// Whether the slot at a place is a fence with the least pair.
+fn is_least_fence(store: &[u32], place: usize) -> bool
+    requires { ⌜ place + wordsInSlot ≤ length (now store) ⌝ }
+    ensures { λ r. ⌜ r ≡ leastFence (slotAt (now (store .entry)) place) ⌝ }
+{
+    let slot = read_slot(store, place);
+    let kind = slot.kind;
+    let pair = slot.pair;
+    both(is_fence(kind), same_pair(least_pair(), pair))
+}
+
+fn lesser(a: u32, b: u32) -> u32
+    ensures { λ r. ⌜ r ≡ min a b ⌝ }
+{
+    if a < b { a } else { b }
+}

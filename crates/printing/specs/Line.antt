@@ -1,0 +1,33 @@
+-- A line: a name, a number in decimal, byte 10. Assumes nothing.
+use Prim.Native.Nat.{ℕ, _+_, _≤_, _<_}
+use native.Mathlib.Omega.{arith}
+use mathlib.Core.Path.{_≡_, _∙_}
+use mathlib.Core.List.{List, [], _∷_, _++_}
+use lib.ListN.{length, length-append}
+use Rattle.printing.specs.Decimal.{decimal, length-digit, long-digits}
+use Rattle.printing.specs.Printed.{Printed, printed-then}
+
+-- What a number of 64 bits and the end of its line take at most: twenty digits and byte 10.
+abbrev pub numberRoom : ℕ
+numberRoom = 21
+
+unfoldable pub line : List ℕ → ℕ → List ℕ
+line name n = name ++ (decimal n ++ 10 ∷ [])
+
+-- A line has its name's bytes, the number's digits and byte 10.
+pub line-length : (name : List ℕ) (n : ℕ) → length (line name n) ≡ length name + (length (decimal n) + 1)
+unfolding line
+line-length name n = length-append name (decimal n ++ 10 ∷ []) ∙ rw (length-append (decimal n) (10 ∷ []))
+
+-- A number below 10 has one digit, and one of 64 bits has twenty at most.
+pub line-digit : (name : List ℕ) (n : ℕ) → n < 10 → length (line name n) ≡ length name + 2
+line-digit name n h = line-length name n ∙ rw (length-digit n h)
+
+pub line-short : (name : List ℕ) (n : ℕ) → n < 18446744073709551616 → length (line name n) ≤ length name + numberRoom
+line-short name n h = omega (arith, line-length name n, long-digits n h)
+
+-- The three parts of a line, put into a buffer one behind the other, are the line.
+pub line-printed : (w : List ℕ) (at : ℕ) (name : List ℕ) (n : ℕ) {v u x : List ℕ} {named end last : ℕ} → Printed w at name v named →
+    Printed v named (decimal n) u end → Printed u end (10 ∷ []) x last → Printed w at (line name n) x last
+unfolding line
+line-printed w at name n {v} {named = named} p q r = printed-then w at name (decimal n ++ 10 ∷ []) p (printed-then v named (decimal n) (10 ∷ []) q r)
