@@ -3,7 +3,8 @@
  *
  * An index of pairs (badge, floor), kept as an FD-tree in the words of a flash chip. Each call is proved, for every content of the memory
  * that it is handed and for every number, to give the reply and to leave the words that crates/landing/src/lib.rt states of it. This file
- * says the same in words; where it uses a term (level, page, merge, sound) docs/ARCHITECTURE.md explains it.
+ * says the same in words; docs/RULES.md has the rules in full, and docs/ARCHITECTURE.md explains the terms (level, page, merge, sound) on a
+ * small store.
  *
  *
  * PAIRS. A badge and a floor are any unsigned 32-bit numbers. Pairs are ordered by badge, then by floor.
@@ -21,6 +22,9 @@
  * the machine: a host that stores them as bytes chooses an order of the bytes and keeps to it, and reads the same index back on any machine.
  * A new index begins with landing_format. Afterwards only landing_put and landing_drop change its words. Between calls a host may copy a
  * store, move it and save it. Any words at all may be handed over as a store: what is no store is refused.
+ *
+ * POWER CUTS. Power-cut recovery is no part of the index. A put or drop changes the words of the store where they stand, one after the
+ * other; after a cut inside a call the controller reloads the store as it was last saved. How a save outlives a cut is the host's matter.
  *
  * WORK AREA. landing_put and landing_drop need a second array of words for the time of the call. Its contents do not matter and need not be
  * kept. After a call that merged levels every word of it is 0xffffffff; after every other call it is as it was before.
@@ -68,11 +72,11 @@
  *
  * STACK. Measured, not proved, for x86-64 as `rt staticlib landing` builds it, in bytes below the caller's frame:
  *
- *     landing_put, landing_drop   1944     in a merge from level 0 down to level 3; without one about half of it
- *     landing_list                1360
- *     landing_check               1008
- *     landing_ask                  352
- *     landing_format               152
+ *     landing_put, landing_drop   1640     in a merge from level 0 down to level 3; without one about half of it
+ *     landing_list                1344
+ *     landing_check               1024
+ *     landing_ask                  368
+ *     landing_format               120
  */
 #ifndef LANDING_H
 #define LANDING_H

@@ -1,8 +1,10 @@
 /*
  * A host of the landing index: a call button whose flash chip is a file.
  *
- * The chip keeps each word of the store as four bytes, lowest byte first. The host writes it after every accepted change, reads it again
- * after a power cut, and at last finds a bit of it turned over.
+ * The chip keeps each word of the store as four bytes, lowest byte first. The host writes the whole store to it after each accepted put or
+ * drop, and reads it back after a restart. Power-cut recovery is no part of the index: after a cut inside a call the chip still holds the
+ * store as it was last written, and the controller reloads that. A cut while the chip is being written is not dealt with here. At the end a
+ * bit of the store is flipped, and each call that looks at it tells the level.
  */
 #include "landing.h"
 

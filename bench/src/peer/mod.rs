@@ -1,4 +1,4 @@
-//! The peer: the whole contract of the paper (01-scope.md) in safe Rust, on the same words.
+//! The peer: the whole contract of the paper (docs/RULES.md) in safe Rust, on the same words.
 //!
 //! It is written for speed as far as safe and simple code goes: levels are streamed, nothing is
 //! allocated, and a merge goes through the work area. Each call has the C interface's form: the
