@@ -1,31 +1,25 @@
 -- Put and drop on any words: the paper's numbers for what src/lib.rt answers, with every word of the store and of the work area afterwards, as
 -- total functions of both and of the pair. Assumes nothing.
-use Prim.Native.Nat.{ℕ, zero, suc, _≤_, _<_}
-use native.Mathlib.Omega.{arith}
-use mathlib.Core.Path.{_≡_, refl, sym, ap, _∙_}
-use mathlib.Core.Bool.{Bool, true, false, true≢false}
+use Prim.Native.Nat.{ℕ, zero, suc}
+use mathlib.Core.Path.{_≡_, refl, ap, _∙_}
+use mathlib.Core.Bool.{Bool, true, false}
 use mathlib.Core.List.{List, [], _∷_, _++_}
-use lib.ListN.{length, getD, drop}
+use lib.ListN.{getD, drop}
 use lib.Dec.{ltb, eqb}
-use borrow.Author.Tests.{eq-eqb, ne-eqb, lt-ltb, le-ltb}
-use Rattle.laws.specs.Lists.{all}
 use Rattle.fault.specs.declared.Fault.{Fault as FaultOf}
 use Rattle.geometry.specs.declared.Geometry.{Geometry}
-use Rattle.geometry.specs.Geometry.{bottom, most}
-use Rattle.geometry.specs.declared.Plan.{Plan}
-use Rattle.geometry.specs.Places.{liveWord, workWords, planOf}
+use Rattle.geometry.specs.Geometry.{most}
+use Rattle.geometry.specs.Places.{liveWord}
 use Rattle.slot.specs.declared.Pair.{Pair}
 use Rattle.geometry.specs.Directory.{geometryOf}
 use Rattle.rules.specs.Sound.{Judged, sound, faultAt, inLevel}
 use Rattle.walk.specs.declared.Walked.{Walked}
 use Rattle.walk.specs.declared.Walked.the-variants.{Found, Fault as Fault-of-walk}
 use Rattle.walk.specs.Walk.{walked}
-use Rattle.geometry.specs.Lent.{Lent, most-at}
 use Rattle.change.specs.declared.Outcome.{Outcome}
 use Rattle.change.specs.declared.Outcome.the-variants.{Done as DoneChange, Fault as FaultChange}
 use Rattle.change.specs.declared.Report.{Report}
 use Rattle.change.specs.Change.{Changed, changeOf, told, outcomeFault, outcomeValues}
-use Rattle.change.specs.Head.{Accepted}
 use Rattle.call_put.specs.declared.Changed.{Changed as Answered}
 use Rattle.call_put.specs.declared.Edited.{Edited}
 use Rattle.call_put.specs.declared.Edited.the-variants.{Done, Range, Length, Fault, Held, Missing, Full}

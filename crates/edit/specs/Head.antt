@@ -1,13 +1,13 @@
 -- The words after an edit of the head: its used slots move by one, and a slot that is left is erased; other unused words stay as they are.
 -- Assumes nothing.
-use Prim.Native.Nat.{ℕ, suc, _+_, _-_, _*_, _≤_, _<_}
+use Prim.Native.Nat.{ℕ, suc, _+_, _-_, _≤_, _<_}
 use native.Mathlib.Numerals.{add-one, add-two}
 use native.Mathlib.Omega.{arith}
-use mathlib.Core.Path.{_≡_, refl, sym, ap, _∙_}
+use mathlib.Core.Path.{_≡_}
 use mathlib.Core.List.{List, [], _∷_, _++_}
 use lib.ListN.{length, getD, set}
-use lib.Seq.{sets, slice, slice-empty, slice-cons, length-slice, length-sets}
-use Rattle.laws.specs.Sets.{set-sets-before, sets-before, sets-behind, getD-sets-before, slice-set-before}
+use lib.Seq.{sets, slice, slice-empty, slice-cons}
+use Rattle.laws.specs.Sets.{set-sets-before, sets-before, getD-sets-before, slice-set-before}
 use Rattle.geometry.specs.Places.{headCountWord, headPlace, erased}
 use Rattle.slot.specs.declared.Slot.{Slot}
 use Rattle.slot.specs.Slot.{wordsOf}

@@ -5,11 +5,10 @@ use native.Mathlib.Omega.{arith}
 use mathlib.Core.Path.{_≡_, refl, ap, sym, fun-ext}
 use mathlib.Core.List.{List, [], _∷_, append-nil}
 use lib.ListN.{getD}
-use borrow.Author.Tests.{le-ltb, lt-ltb}
 use Rattle.laws.specs.Lists.{span, concat}
 use Rattle.geometry.specs.declared.Geometry.{Geometry}
 use Rattle.geometry.specs.Geometry.{InRange, room}
-use Rattle.geometry.specs.Places.{pagesWord, headCountWord, slotsInPage, headRoom, levelStart, pagePlace, slotPlace, storeWords, directoryWords}
+use Rattle.geometry.specs.Places.{headCountWord, slotsInPage, headRoom, levelStart, pagePlace, slotPlace, storeWords, directoryWords}
 use Rattle.geometry.specs.Bounds.{room-small}
 use Rattle.geometry.specs.Apart.{level-one, level-after, level-inside}
 use Rattle.slot.specs.declared.Slot.{Slot}

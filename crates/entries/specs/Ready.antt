@@ -6,20 +6,20 @@ use mathlib.Core.Bool.{Bool, true, false, _&&_, _||_}
 use mathlib.Core.List.{List, [], _∷_}
 use lib.ListN.{length, getD, take, drop}
 use lib.Dec.{leb, ltb, eqb}
-use borrow.Author.Tests.{leb-true, eqb-true, eqb-false}
+use borrow.Author.Tests.{eqb-true, eqb-false}
 use Rattle.laws.specs.Lists.{span, all, equal}
 use Rattle.laws.specs.Tests.{and-left, and-right}
 use Rattle.geometry.specs.declared.Geometry.{Geometry}
-use Rattle.geometry.specs.Geometry.{most, room}
-use Rattle.geometry.specs.Places.{liveWord, pagesWord, modeWord, openMode, headCountWord, headRoom, headStart, levelStart}
+use Rattle.geometry.specs.Geometry.{room}
+use Rattle.geometry.specs.Places.{headCountWord, headRoom, headStart, levelStart}
 use Rattle.slot.specs.declared.Slot.{Slot}
 use Rattle.slot.specs.Pair.{rank, before, same}
-use Rattle.slot.specs.Order.{before-below, same-level, below-before}
-use Rattle.rules.specs.Tree.{Level, rankOf}
+use Rattle.slot.specs.Order.{before-below, same-level}
+use Rattle.rules.specs.Tree.{Level}
 use Rattle.rules.specs.Level.{fenceKind, pagesFor, fences, weave}
 use Rattle.rules.specs.Finding.{normalKind}
 use Rattle.rules.specs.Store.{runWords, levelWords}
-use Rattle.rules.specs.Sound.{headSlots, levelSlots, entriesOf, firstAt, treeOf, pagesRight, directoryRight, follows, inOrder, legal, fencePages, firstIsLeast, headRight, pageFormed, ascending, levelLaid, withinCapacity, levelSound, headSound, Judged, sound, faultAt, inLevel, levelsFault, acrossFault, else, fault}
+use Rattle.rules.specs.Sound.{headSlots, levelSlots, entriesOf, firstAt, treeOf, directoryRight, follows, inOrder, legal, fencePages, firstIsLeast, headRight, pageFormed, ascending, levelLaid, withinCapacity, levelSound, headSound, Judged, sound, faultAt, inLevel, levelsFault, acrossFault, else, fault}
 use Rattle.geometry.specs.Directory.{pagesOf}
 use Rattle.rules.specs.Directed.{pages-fit}
 use Rattle.entries.specs.Levels.{PagesWithin}

@@ -1,5 +1,5 @@
 -- Index entries from a pair on: of a level, and of a page's slots. Assumes nothing.
-use Prim.Native.Nat.{ℕ, zero, suc, _+_, _-_, _≤_, _<_}
+use Prim.Native.Nat.{ℕ, suc, _+_, _-_, _≤_, _<_}
 use native.Mathlib.Numerals.{add-one}
 use native.Mathlib.Omega.{arith}
 use mathlib.Core.Path.{_≡_, refl, ap, sym, _∙_}
@@ -10,7 +10,7 @@ use Rattle.laws.specs.Lists.{span}
 use Rattle.laws.specs.Tests.{and-left}
 use Rattle.slot.specs.declared.Pair.{Pair}
 use Rattle.slot.specs.declared.Slot.{Slot}
-use Rattle.slot.specs.Pair.{rank, before, least, least-first}
+use Rattle.slot.specs.Pair.{before, least, least-first}
 use Rattle.slot.specs.Slot.{slotAt}
 use Rattle.slot.specs.Order.{before-below}
 use Rattle.rules.specs.Tree.{Entry, Level, Tree}

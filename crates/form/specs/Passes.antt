@@ -13,7 +13,7 @@ use Rattle.laws.specs.Tests.{and-assoc}
 use Rattle.laws.specs.Lists.{span, passing, all, equal}
 use Rattle.geometry.specs.declared.Geometry.{Geometry}
 use Rattle.geometry.specs.Geometry.{bottom}
-use Rattle.geometry.specs.Places.{headRoom, pagesWord, headCountWord, headStart, slotsInPage}
+use Rattle.geometry.specs.Places.{headRoom, headCountWord, headStart, slotsInPage}
 use Rattle.slot.specs.declared.Pair.{Pair}
 use Rattle.slot.specs.declared.Slot.{Slot}
 use Rattle.slot.specs.Pair.{least, before, same}

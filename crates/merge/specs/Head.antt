@@ -1,10 +1,10 @@
 -- The head rebuilt, slot by slot: a fence for each page of the level below, and unused words behind them. Assumes nothing.
-use Prim.Native.Nat.{ℕ, zero, suc, _+_, _-_, _*_, _^_, _≤_, _<_}
+use Prim.Native.Nat.{ℕ, zero, suc, _+_, _-_, _*_, _≤_, _<_}
 use native.Mathlib.Nat.{zero-add}
 use native.Mathlib.Omega.{arith}
 use mathlib.Core.Path.{_≡_, refl, sym, ap, _∙_}
 use mathlib.Core.List.{List, [], _∷_, _++_, append-assoc}
-use lib.ListN.{length, getD, set, replicate}
+use lib.ListN.{length, set, replicate}
 use lib.Seq.{sets, length-sets}
 use Rattle.laws.specs.Lists.{span, concat, length-span}
 use Rattle.laws.specs.Flat.{span-append}
@@ -17,7 +17,6 @@ use Rattle.slot.specs.declared.Slot.{Slot}
 use Rattle.slot.specs.Slot.{slotAt, wordsOf}
 use Rattle.rules.specs.Level.{external, fenceOf, fences}
 use Rattle.rules.specs.Store.{runWords}
-use Rattle.rules.specs.Sound.{firstAt}
 use Rattle.geometry.specs.Directory.{pagesOf}
 use Rattle.layout.specs.Run.{wordsOfAll, words-length}
 use Rattle.layout.specs.Words.{firstPair}

@@ -1,11 +1,11 @@
 -- On a store that is laid out in slots, filling a level lays out its row made anew, and rebuilding the levels above refills them.
 -- Assumes nothing.
-use Prim.Native.Nat.{ℕ, zero, suc, _+_, _≤_, _<_}
+use Prim.Native.Nat.{ℕ, zero, suc, _≤_, _<_}
 use native.Mathlib.Omega.{arith}
 use mathlib.Core.Path.{_≡_, refl, sym, ap, subst, _∙_}
 use mathlib.Core.Bool.{Bool, true, false}
-use mathlib.Core.List.{List, [], _∷_, map}
-use lib.ListN.{length, getD, set, drop, drop-of-length-le}
+use mathlib.Core.List.{List, [], map}
+use lib.ListN.{length, getD, drop, drop-of-length-le}
 use lib.Seq.{drop-cons}
 use lib.Dec.{ltb}
 use borrow.Author.Tests.{ltb-true, ltb-false}
@@ -14,8 +14,8 @@ use Rattle.geometry.specs.declared.Geometry.{Geometry}
 use Rattle.geometry.specs.Geometry.{InRange, room}
 use Rattle.geometry.specs.Places.{headRoom}
 use Rattle.slot.specs.declared.Slot.{Slot}
-use Rattle.rules.specs.Tree.{Level, Tree, level}
-use Rattle.rules.specs.Level.{index, pagesFor, fenceOf, fences, firstOf, weave, paged, over, layOn, laid, headOn}
+use Rattle.rules.specs.Tree.{Level}
+use Rattle.rules.specs.Level.{index, pagesFor, fenceOf, fences, firstOf, weave, over, layOn, laid, headOn}
 use Rattle.rules.specs.Merging.{pagesWritten}
 use Rattle.rules.specs.Store.{laidOut}
 use Rattle.rules.specs.Sound.{firstAt, levelLaid}
@@ -29,7 +29,7 @@ use Rattle.stored.specs.Over.{laid-bare, woven-over, laid-over}
 use Rattle.stored.specs.Replacing.{level-replaced, level-replaced-fits, head-replaced}
 use Rattle.finding.specs.Fences.{fencesOver}
 use Rattle.finding.specs.Rows.{rowOn, laid-row}
-use Rattle.merge.specs.Filling.{levelPut, headPut, filled, filledPages, Fillable, headRebuilt, rebuilt, rebuiltPages, Rebuildable}
+use Rattle.merge.specs.Filling.{levelPut, headPut, filled, filledPages, headRebuilt, rebuilt, rebuiltPages, Rebuildable}
 use Rattle.merge.specs.Refilling.{withRow, refill, refill-row, written-none, written-next}
 
 module _ (g : Geometry) (live : ℕ) (fit : InRange g) where

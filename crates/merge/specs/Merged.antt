@@ -1,9 +1,9 @@
 -- On the writing of a tree, merging a level in words gives the writing of the merged tree, with the pages that the rules write. Assumes
 -- nothing.
-use Prim.Native.Nat.{ℕ, zero, suc, _+_, _≤_, _<_}
+use Prim.Native.Nat.{ℕ, zero, suc, _≤_, _<_}
 use native.Mathlib.Omega.{arith}
 use mathlib.Core.Path.{_≡_, refl, sym, ap, subst, _∙_}
-use mathlib.Core.Bool.{Bool, true, false}
+use mathlib.Core.Bool.{true}
 use mathlib.Core.List.{List, []}
 use lib.ListN.{length, getD, drop}
 use Rattle.geometry.specs.declared.Geometry.{Geometry}
@@ -13,13 +13,13 @@ use Rattle.rules.specs.Tree.{Level, Tree, level}
 use Rattle.rules.specs.Level.{pagesFor, slotsOf}
 use Rattle.rules.specs.Merging.{join, merge, pagesWritten}
 use Rattle.rules.specs.Store.{laidOut}
-use Rattle.rules.specs.Sound.{treeOf, ascending, levelLaid}
+use Rattle.rules.specs.Sound.{ascending, levelLaid}
 use Rattle.rules.specs.Good.{SlotsFit, Fits}
 use Rattle.entries.specs.Levels.{head-entries, level-entries}
 use Rattle.stored.specs.Slots.{slots-length}
 use Rattle.stored.specs.Back.{tree-head, tree-level, tree-back}
 use Rattle.finding.specs.Rows.{rowOn}
-use Rattle.merge.specs.Filling.{runAt, entriesAt, joined, filled, filledPages, Fillable, rebuilt, rebuiltPages, Rebuildable, merged, mergedPages, Mergeable}
+use Rattle.merge.specs.Filling.{runAt, entriesAt, joined, filled, filledPages, merged, mergedPages, Mergeable}
 use Rattle.merge.specs.Refilling.{withRow, refill, refill-stays, row-stands, merge-slots, written-next}
 use Rattle.merge.specs.Laid.{within-laid, row-laid, row-fits, filled-laid, Rebuilds, rebuilt-laid}
 

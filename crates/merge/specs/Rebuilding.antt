@@ -1,12 +1,12 @@
 -- Levels rebuilt one after another, up to the head: from each level on, what is left to rebuild makes up the whole. Assumes nothing.
-use Prim.Native.Nat.{ℕ, zero, suc, _+_, _-_, _*_, _≤_, _<_}
-use native.Mathlib.Nat.{zero-add, add-zero}
+use Prim.Native.Nat.{ℕ, zero, suc, _+_, _-_, _*_, _≤_}
+use native.Mathlib.Nat.{zero-add}
 use native.Mathlib.Omega.{arith}
-use mathlib.Core.Path.{_≡_, refl, sym, ap, _∙_}
+use mathlib.Core.Path.{_≡_, refl, _∙_}
 use mathlib.Core.List.{List, []}
 use lib.ListN.{length}
 use Rattle.geometry.specs.declared.Geometry.{Geometry}
-use Rattle.geometry.specs.Geometry.{InRange, room}
+use Rattle.geometry.specs.Geometry.{InRange}
 use Rattle.geometry.specs.Bounds.{room-small}
 use Rattle.entries.specs.Levels.{PagesWithin}
 use Rattle.merge.specs.Filling.{filled, filledPages, Fillable, headRebuilt, rebuilt, rebuiltPages, Rebuildable, joined, merged, mergedPages, Mergeable}

@@ -1,18 +1,18 @@
 -- The slots of a tree's levels rebuilt from below: a level's row made anew over those below it, then rows of fences alone up to the head.
 -- They are the slots of the merged tree. Assumes nothing.
-use Prim.Native.Nat.{ℕ, zero, suc, _+_, _≤_, _<_}
+use Prim.Native.Nat.{ℕ, zero, suc, _+_, _<_}
 use native.Mathlib.Omega.{arith}
 use mathlib.Core.Path.{_≡_, refl, sym, ap, _∙_}
 use mathlib.Core.Logic.{_≢_}
 use mathlib.Core.List.{List, [], _∷_, _++_}
 use lib.ListN.{length, getD, set, take, drop, replicate, length-append, length-set}
-use lib.Seq.{set-split, drop-at, getD-set-same, getD-set-other, drop-cons, length-take-le}
+use lib.Seq.{set-split, drop-at, getD-set-same, getD-set-other, length-take-le}
 use Rattle.laws.specs.Lists.{span, length-span}
 use Rattle.slot.specs.declared.Slot.{Slot}
 use Rattle.rules.specs.Tree.{Level, Tree, level}
-use Rattle.rules.specs.Level.{pagesFor, pageOf, layOn, laid, headOn, slotsOf}
+use Rattle.rules.specs.Level.{pagesFor, pageOf, laid, headOn, slotsOf}
 use Rattle.rules.specs.Merging.{join, merge, PageWrite, pagesWritten}
-use Rattle.finding.specs.Rows.{rowOn, laid-row, lower-laid}
+use Rattle.finding.specs.Rows.{rowOn, laid-row}
 
 -- Level i's row made anew, over the levels below it as they stand.
 unfoldable pub withRow : ℕ → Level → List (List Slot) → List (List Slot)

@@ -2,23 +2,23 @@
 -- the pages of the rules. Assumes nothing.
 use Prim.Native.Nat.{ℕ, zero, suc, _+_, _<_}
 use native.Mathlib.Omega.{arith}
-use mathlib.Core.Path.{_≡_, refl, sym, ap, subst, _∙_}
+use mathlib.Core.Path.{_≡_, refl, _∙_}
 use mathlib.Core.Bool.{Bool, true, false}
-use mathlib.Core.List.{List, [], _++_}
+use mathlib.Core.List.{[]}
 use lib.ListN.{length, length-append}
 use lib.Dec.{ltb}
-use Rattle.laws.specs.Lists.{all, all-at}
+use Rattle.laws.specs.Lists.{all-at}
 use Rattle.geometry.specs.declared.Geometry.{Geometry}
 use Rattle.geometry.specs.Geometry.{InRange, bottom, capacity}
 use Rattle.rules.specs.Tree.{level}
 use Rattle.rules.specs.Level.{slotsOf}
 use Rattle.rules.specs.Merging.{State, Settled, merge, pagesWritten, settle}
-use Rattle.rules.specs.Store.{laidOut, writing}
+use Rattle.rules.specs.Store.{writing}
 use Rattle.rules.specs.Sound.{ascending}
-use Rattle.rules.specs.Good.{Fits, Cascading}
+use Rattle.rules.specs.Good.{Cascading}
 use Rattle.entries.specs.Levels.{PagesWithin}
 use Rattle.good.specs.Cascade.{mergedState, merged-cascading, cascading-fits}
-use Rattle.merge.specs.Filling.{Outcome, outcome, after, roomAt, mergedPages, merged, settled, Settleable}
+use Rattle.merge.specs.Filling.{Outcome, outcome, roomAt, settled, Settleable}
 use Rattle.merge.specs.Laid.{within-laid}
 use Rattle.merge.specs.Merged.{entries-laid, Merges, merged-laid}
 

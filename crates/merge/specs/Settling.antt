@@ -1,8 +1,8 @@
 -- Settling a level, case by case, as the code goes: it stays, or it is merged on and the next is settled. Assumes nothing.
-use Prim.Native.Nat.{ℕ, zero, suc, _+_, _-_, _≤_, _<_}
+use Prim.Native.Nat.{ℕ, zero, suc, _+_, _-_, _<_}
 use native.Mathlib.Numerals.{add-one}
 use native.Mathlib.Omega.{arith}
-use mathlib.Core.Path.{_≡_, refl, sym, ap, subst, _∙_}
+use mathlib.Core.Path.{_≡_, refl, sym, ap, subst}
 use mathlib.Core.Bool.{Bool, true, false, not, _&&_}
 use mathlib.Core.List.{List}
 use lib.Dec.{ltb}
@@ -11,7 +11,7 @@ use Rattle.laws.specs.Tests.{and-left, and-right}
 use Rattle.geometry.specs.declared.Geometry.{Geometry}
 use Rattle.geometry.specs.Geometry.{bottom}
 use Rattle.entries.specs.Levels.{PagesWithin}
-use Rattle.merge.specs.Filling.{Outcome, outcome, after, roomAt, merged, mergedPages, Mergeable, settled, mergedOn, Settleable}
+use Rattle.merge.specs.Filling.{outcome, after, roomAt, merged, mergedPages, Mergeable, settled, mergedOn, Settleable}
 
 pub settle-within : (g : Geometry) (n i : ℕ) (w : List ℕ) → Settleable g n i w → PagesWithin g w
 unfolding Settleable

@@ -1,6 +1,6 @@
 -- What a level is filled from: the entries of two runs joined, over the pages of the level below as they stand; written into the work
 -- area, and copied from there to its room. Assumes nothing.
-use Prim.Native.Nat.{ℕ, zero, suc, _+_, _-_, _*_, _/_, _≤_, _<_, max}
+use Prim.Native.Nat.{ℕ, zero, suc, _+_, _-_, _*_, _≤_, _<_, max}
 use native.Mathlib.Numerals.{add-one}
 use native.Mathlib.Omega.{arith}
 use mathlib.Core.Path.{_≡_, refl, sym, ap, _∙_}
@@ -22,8 +22,7 @@ use Rattle.geometry.specs.Bounds.{room-small, room-least}
 use Rattle.geometry.specs.Apart.{level-after, level-inside}
 use Rattle.geometry.specs.Lent.{Lent, room-inside}
 use Rattle.slot.specs.declared.Slot.{Slot}
-use Rattle.rules.specs.Tree.{Level}
-use Rattle.rules.specs.Level.{pagesFor, pageOf}
+use Rattle.rules.specs.Level.{pagesFor}
 use Rattle.rules.specs.Merging.{join}
 use Rattle.rules.specs.Store.{levelWords}
 use Rattle.rules.specs.Sound.{levelLaid, ascending}

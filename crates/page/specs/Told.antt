@@ -4,13 +4,13 @@ use Prim.Native.Nat.{ℕ, zero, suc, _+_, _*_, _≤_, _<_}
 use native.Mathlib.Nat.{zero-add}
 use native.Mathlib.Omega.{arith}
 use mathlib.Core.Path.{_≡_, refl, sym, ap, _∙_}
-use mathlib.Core.Bool.{Bool, true, false, not, _&&_, cond, false≢true}
+use mathlib.Core.Bool.{Bool, true, false, not, false≢true}
 use mathlib.Core.List.{List, [], _∷_, reverse}
 use lib.ListN.{length, getD, take}
 use lib.Dec.{ltb}
 use borrow.Author.Tests.{le-ltb, ltb-true}
 use Rattle.laws.specs.Tests.{and-right}
-use Rattle.laws.specs.Lists.{span, passing, all, length-span, getD-span, all-at, reverse-take}
+use Rattle.laws.specs.Lists.{passing, all, length-span, getD-span, all-at, reverse-take}
 use Rattle.slot.specs.declared.Pair.{Pair}
 use Rattle.slot.specs.declared.Slot.{Slot}
 use Rattle.slot.specs.declared.Kind.{Kind}
@@ -18,9 +18,8 @@ use Rattle.slot.specs.declared.Kind.the-variants.{Normal, Filter, External, Int
 use Rattle.slot.specs.Pair.{before, same}
 use Rattle.slot.specs.Slot.{slotAt}
 use Rattle.rules.specs.Level.{fenceKind}
-use Rattle.rules.specs.Finding.{normalKind, Told, decided, follow, nothing, atMost, stepBack, tellFrom, tell}
+use Rattle.rules.specs.Finding.{normalKind, decided, follow, nothing, atMost, stepBack, tellFrom, tell}
 use Rattle.rules.specs.Sound.{inOrder, legal, legalKind, slotsFrom}
-use Rattle.page.specs.declared.Met.{Met}
 use Rattle.page.specs.declared.Met.the-variants.{Absent, Entry}
 use Rattle.page.specs.Form.{at-most-first}
 use Rattle.page.specs.Tell.{fenceBack, fence-back-here, fence-back-on, metIn}

@@ -9,7 +9,7 @@ use Rattle.laws.specs.Lists.{span, concat, passing, all, equal}
 use Rattle.fault.specs.declared.Fault.{Fault}
 use Rattle.geometry.specs.declared.Geometry.{Geometry}
 use Rattle.geometry.specs.Geometry.{bottom, capacity, most, room}
-use Rattle.geometry.specs.Places.{headWord, ratioWord, levelsWord, liveWord, pagesWord, modeWord, openMode, headCountWord, headStart, headRoom, levelStart, pagePlace, slotPlace, slotsInPage, wordsInSlot, wordsInPage}
+use Rattle.geometry.specs.Places.{liveWord, pagesWord, modeWord, openMode, headCountWord, headStart, headRoom, levelStart, pagePlace, slotPlace, slotsInPage, wordsInSlot, wordsInPage}
 use Rattle.slot.specs.declared.Pair.{Pair}
 use Rattle.slot.specs.declared.Slot.{Slot}
 use Rattle.slot.specs.declared.Kind.{Kind}

@@ -1,11 +1,11 @@
 -- A slot's three words: badge, floor, tag. Read from words and made into words, with the round trip. Assumes nothing.
-use Prim.Native.Nat.{ℕ, suc, _+_, _≤_, _<_}
+use Prim.Native.Nat.{ℕ, suc, _+_, _≤_}
 use native.Mathlib.Numerals.{add-one, add-two, add-three}
 use native.Mathlib.Omega.{arith}
-use mathlib.Core.Path.{_≡_, refl, ap}
+use mathlib.Core.Path.{_≡_}
 use mathlib.Core.List.{List, [], _∷_}
 use lib.ListN.{length, getD}
-use lib.Seq.{sets, slice, slice-cons, slice-empty}
+use lib.Seq.{slice, slice-cons, slice-empty}
 use Rattle.slot.specs.declared.Slot.{Slot}
 use Rattle.slot.specs.Pair.{pair}
 use Rattle.slot.specs.Tag.{kindOf, pageOf, tagOf, tag-again}

@@ -1,7 +1,7 @@
 -- Tag = 4 × page number + kind, made and taken apart, with the round trip. Assumes nothing.
 use Prim.Native.Nat.{ℕ, zero, suc, _+_, _*_, _/_, _%_, _<_}
 use native.Mathlib.Omega.{arith}
-use mathlib.Core.Path.{_≡_, refl, ap}
+use mathlib.Core.Path.{_≡_, refl}
 use Rattle.slot.specs.declared.Pid.{Pid}
 use Rattle.slot.specs.declared.Kind.{Kind}
 use Rattle.slot.specs.declared.Kind.the-variants.{Normal, Filter, External, Internal}

@@ -1,10 +1,10 @@
 -- The tests of one level and the first faulty level from the top, as the clauses of src/lib.rt cite them. Assumes nothing.
-use Prim.Native.Nat.{ℕ, zero, suc, _+_, _-_, _≤_, _<_}
+use Prim.Native.Nat.{ℕ, suc, _+_, _-_, _≤_, _<_}
 use native.Mathlib.Numerals.{add-one}
 use native.Mathlib.Omega.{arith}
 use mathlib.Core.Path.{_≡_, refl, sym, _∙_}
 use mathlib.Core.Bool.{Bool, true, false, cond, _&&_}
-use mathlib.Core.List.{List, [], _∷_}
+use mathlib.Core.List.{List, []}
 use lib.ListN.{getD}
 use lib.Dec.{ltb, leb, eqb}
 use borrow.Author.Tests.{eqb-true}
@@ -12,7 +12,7 @@ use Rattle.laws.specs.Tests.{and-left}
 use Rattle.laws.specs.Lists.{span, all, all-cons, span-next, span-end}
 use Rattle.geometry.specs.declared.Geometry.{Geometry}
 use Rattle.geometry.specs.declared.Plan.{Plan}
-use Rattle.geometry.specs.Geometry.{bottom, capacity, most}
+use Rattle.geometry.specs.Geometry.{bottom, most}
 use Rattle.geometry.specs.Lent.{Lent, capacities-at}
 use Rattle.rules.specs.Sound.{Judged, sound, faultAt, inLevel, directoryRight, headRight, headSound, levelSound, levelsFault, acrossFault, else, fault, alternating, liveRight, treeOf, withinCapacity}
 use Rattle.geometry.specs.Places.{liveWord}

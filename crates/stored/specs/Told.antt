@@ -9,19 +9,19 @@ use mathlib.Core.List.{List, [], map}
 use lib.ListN.{length, getD, take, drop}
 use lib.Seq.{ext-getD, getD-take, length-take-le}
 use lib.Dec.{ltb, leb, eqb}
-use borrow.Author.Tests.{ltb-true, ltb-false, leb-true, eqb-true, ne-eqb}
+use borrow.Author.Tests.{ltb-true, ltb-false, eqb-true, ne-eqb}
 use Rattle.laws.specs.Lists.{span, all, equal, length-span, getD-span}
 use Rattle.laws.specs.Tests.{and-three, and-six}
 use Rattle.laws.specs.Flat.{equal-true}
 use Rattle.geometry.specs.declared.Geometry.{Geometry}
-use Rattle.geometry.specs.Geometry.{InRange, bottom, most, room}
-use Rattle.geometry.specs.Places.{liveWord, pagesWord, modeWord, openMode, headCountWord, headStart, headRoom, levelStart, storeWords, headWord, ratioWord, levelsWord, directoryWords, wordsInPage, wordsInSlot}
+use Rattle.geometry.specs.Geometry.{InRange, bottom, room}
+use Rattle.geometry.specs.Places.{liveWord, pagesWord, headCountWord, headStart, headRoom, levelStart, storeWords, headWord, ratioWord, levelsWord, directoryWords, wordsInPage, wordsInSlot}
 use Rattle.geometry.specs.Bounds.{capacity-zero}
 use Rattle.slot.specs.declared.Slot.{Slot}
 use Rattle.rules.specs.Tree.{Tree, level}
 use Rattle.rules.specs.Level.{index, pagesFor, fences, weave, slotsOf}
 use Rattle.rules.specs.Store.{runWords, levelWords, pageCount, directory}
-use Rattle.rules.specs.Sound.{headSlots, levelSlots, entriesOf, firstAt, treeOf, pagesRight, directoryRight, inOrder, headRight, pageFormed, ascending, levelLaid, withinCapacity, levelSound, headSound}
+use Rattle.rules.specs.Sound.{headSlots, levelSlots, entriesOf, firstAt, treeOf, pagesRight, inOrder, headRight, pageFormed, ascending, levelLaid, withinCapacity, levelSound, headSound}
 use Rattle.geometry.specs.Directory.{geometryOf, pagesOf, pages-of}
 use Rattle.rules.specs.Good.{Good}
 use Rattle.rules.specs.Laid.{slots-head, slots-upper, slots-bottom}

@@ -8,7 +8,7 @@ use mathlib.Core.Bool.{Bool, true, false, not, _&&_, _||_}
 use mathlib.Core.List.{List}
 use lib.ListN.{length, getD}
 use lib.Dec.{ltb, leb, eqb}
-use borrow.Author.Tests.{leb-true, le-ltb, eq-eqb, ne-eqb, eqb-true, not-true}
+use borrow.Author.Tests.{leb-true, eq-eqb, ne-eqb, eqb-true, not-true}
 use Rattle.laws.specs.Tests.{and-left, and-right, and-three, and-six}
 use Rattle.laws.specs.Lists.{span, passing, all, equal, passing-yes, passing-small}
 use Rattle.geometry.specs.declared.Geometry.{Geometry}
@@ -21,7 +21,6 @@ use Rattle.slot.specs.Pair.{least, before, same, none-before-least}
 use Rattle.slot.specs.Slot.{slotAt}
 use Rattle.page.specs.Told.{length-run}
 use Rattle.rules.specs.Level.{fenceKind}
-use Rattle.rules.specs.Finding.{tell}
 use Rattle.rules.specs.Sound.{slotsFrom, headSlots, countAt, pageSlots, entriesOf, inOrder, legal, fencePages, firstIsLeast, headRight, countRight, pageFormed, firstRight, pageRight}
 use Rattle.geometry.specs.Directory.{pagesOf, pages-none}
 use Rattle.walk.specs.declared.Step.the-variants.{Broken}

@@ -2,20 +2,13 @@
 use Prim.Native.Nat.{ℕ, zero, suc, _+_, _-_, _≤_, _<_}
 use native.Mathlib.Omega.{arith}
 use mathlib.Core.Path.{_≡_, refl, sym, _∙_}
-use mathlib.Core.Bool.{Bool, true, false, cond, _&&_}
-use mathlib.Core.List.{List, [], _∷_}
-use lib.ListN.{getD}
-use lib.Dec.{leb, eqb}
-use borrow.Author.Tests.{lt-ltb, leb-true}
-use Rattle.laws.specs.Tests.{and-left, and-right, and-three}
-use Rattle.laws.specs.Lists.{all, all-three}
+use mathlib.Core.Bool.{Bool, true, false, cond}
+use mathlib.Core.List.{List, []}
 use Rattle.geometry.specs.declared.Geometry.{Geometry}
-use Rattle.geometry.specs.Geometry.{bottom, most, room}
-use Rattle.geometry.specs.Places.{liveWord, pagesWord, modeWord, openMode}
+use Rattle.geometry.specs.Geometry.{bottom}
 use Rattle.slot.specs.declared.Pair.{Pair}
 use Rattle.slot.specs.declared.Pid.{Pid}
-use Rattle.rules.specs.Sound.{pagesRight, directoryRight, headRight, inLevel}
-use Rattle.geometry.specs.Directory.{pagesOf}
+use Rattle.rules.specs.Sound.{directoryRight, headRight, inLevel}
 use Rattle.walk.specs.declared.Step.{Step}
 use Rattle.walk.specs.declared.Step.the-variants.{Decided, Follow, Nothing, Broken}
 use Rattle.walk.specs.declared.Walked.{Walked}

@@ -5,8 +5,8 @@ use mathlib.Core.Path.{_≡_, refl, sym, ap, _∙_, fun-ext}
 use mathlib.Core.Bool.{Bool, true, false, not, _&&_}
 use mathlib.Core.List.{List, [], _∷_, map}
 use lib.ListN.{length, getD, take, drop}
-use lib.Dec.{ltb, leb, eqb}
-use borrow.Author.Tests.{le-ltb, eqb-true, leb-true}
+use lib.Dec.{leb, eqb}
+use borrow.Author.Tests.{eqb-true, leb-true}
 use Rattle.laws.specs.Lists.{span, concat, equal, all}
 use Rattle.laws.specs.Flat.{span-agree}
 use Rattle.geometry.specs.declared.Geometry.{Geometry}
@@ -18,7 +18,7 @@ use Rattle.slot.specs.Slot.{slotAt}
 use Rattle.rules.specs.Tree.{Level}
 use Rattle.rules.specs.Level.{index, fences, place, weave, paged}
 use Rattle.rules.specs.Store.{runWords}
-use Rattle.rules.specs.Sound.{slotsFrom, headSlots, countAt, pageSlots, levelSlots, entriesOf, firstAt, legal, inOrder, fencePages, firstIsLeast, headRight, pageFormed, ascending, levelLaid, withinCapacity, levelSound, headSound}
+use Rattle.rules.specs.Sound.{slotsFrom, headSlots, countAt, pageSlots, levelSlots, entriesOf, firstAt, headRight, pageFormed, levelLaid, withinCapacity, levelSound, headSound}
 use Rattle.geometry.specs.Directory.{pagesOf, pages-none}
 use Rattle.entries.specs.Ready.{head-ascends}
 use Rattle.written.specs.Written.{levelWritten, headWritten}

@@ -1,16 +1,12 @@
 -- What the clauses of src/lib.rt cite: the head or a level, given by the places of its words, is the writing of its own ascending entries
 -- over the pages below as they stand. Assumes nothing.
-use Prim.Native.Nat.{ℕ, _+_, _*_, _≤_, min}
-use mathlib.Core.Bool.{Bool, true, false, _&&_}
+use Prim.Native.Nat.{ℕ, _+_, _*_, _≤_}
+use mathlib.Core.Bool.{Bool, false, _&&_}
 use mathlib.Core.List.{List}
-use lib.ListN.{length, getD, take, drop}
+use lib.ListN.{length, take, drop}
 use lib.Dec.{eqb}
-use Rattle.laws.specs.Lists.{span, concat, equal}
-use Rattle.slot.specs.declared.Pair.{Pair}
-use Rattle.slot.specs.declared.Slot.{Slot}
-use Rattle.slot.specs.Slot.{slotAt}
-use Rattle.rules.specs.Tree.{Level}
-use Rattle.rules.specs.Level.{pagesFor, fences, weave, paged}
+use Rattle.laws.specs.Lists.{equal}
+use Rattle.rules.specs.Level.{pagesFor}
 use Rattle.rules.specs.Store.{runWords, levelWords}
 use Rattle.rules.specs.Sound.{slotsFrom, entriesOf, ascending}
 use Rattle.layout.specs.Words.{firstPair, laidOver, levelRun}

@@ -1,10 +1,10 @@
 -- `list_open` gives the whole-store test's refusal, or the held pairs and every word of the slice. Assumes nothing.
-use mathlib.Core.Path.{_≡_, sym, ap, _∙_}
-use Rattle.rules.specs.Sound.{sound, fault}
+use mathlib.Core.Path.{sym, ap, _∙_}
+use Rattle.rules.specs.Sound.{fault}
 use Rattle.sound.specs.Levels.{wholeTold}
 use Rattle.entries.specs.Ready.{sound-ready}
 use Rattle.opening.specs.Opening.{open-range, open-lent}
-use Rattle.call_check.specs.List.{listedReply, testedReply}
+use Rattle.call_check.specs.List.{listedReply}
 use borrow.Author.Needs.{needs}
 use Rattle.call_check.proofs.list_open.Statement.{statement}
 use Rattle.call_check.proofs.list_open.Tie as tie

@@ -5,7 +5,6 @@ use Rattle.entries.specs.Ascending.{runs-ascend}
 use Rattle.laws.specs.Tests.{told-no, told-past}
 use mathlib.Core.Path.{_∙_}
 use denote.Ref.{now}
-use native.Mathlib.Omega.{arith}
 use borrow.Author.Needs.{needs}
 use Rattle.kinds.proofs.kinds_right.Statement.{statement}
 use Rattle.kinds.proofs.kinds_right.Tie as tie

@@ -4,7 +4,6 @@ use Rattle.entries.specs.Levels.{runs-inside}
 use Rattle.entries.specs.Ascending.{runs-ascend}
 use mathlib.Core.Path.{_∙_}
 use denote.Ref.{now}
-use native.Mathlib.Omega.{arith}
 use borrow.Author.Needs.{needs}
 use Rattle.listing.proofs.list_pairs.Statement.{statement}
 use Rattle.listing.proofs.list_pairs.Tie as tie

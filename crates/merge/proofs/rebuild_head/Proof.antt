@@ -1,7 +1,6 @@
 -- `rebuild_head` writes a fence for each page of level 1 into the head, and erases its other slots, by `head-rebuilt`. Assumes nothing.
 use lib.ListN.{length-set}
 use lib.Seq.{length-sets}
-use Rattle.geometry.specs.Apart.{level-one}
 use Rattle.merge.specs.Head.{head-rebuilt}
 use Rattle.merge.specs.Runs.{head-places, head-end}
 use native.Mathlib.Omega.{arith}

@@ -1,5 +1,5 @@
 -- `held_number` copies what `ask_reply` gives. Assumes nothing.
-use mathlib.Core.Path.{ap, _∙_}
+use mathlib.Core.Path.{_∙_}
 use Rattle.call_ask.specs.Ask.{askReply}
 use Rattle.sheet_calls.specs.Answers.{held-small, held-refused, held-told}
 use native.Mathlib.Omega.{arith}

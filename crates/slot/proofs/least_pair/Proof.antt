@@ -1,7 +1,6 @@
 -- `least_pair` gives the least pair. Assumes nothing.
 use Rattle.slot.specs.Pair.{least}
 use borrow.Author.Needs.{needs}
-use native.Mathlib.Omega.{arith}
 use Rattle.slot.proofs.least_pair.Statement.{statement}
 use Rattle.slot.proofs.least_pair.Tie as tie
 use Rattle.slot.proofs.least_pair.Reads as reads

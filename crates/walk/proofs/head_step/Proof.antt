@@ -6,7 +6,6 @@ use Rattle.form.specs.declared.HeadRead.{HeadRead}
 use Rattle.form.specs.Passes.{head-formed}
 use Rattle.walk.specs.Read.{head-broken, head-first, head-some, head-reach-small, head-tells, head-within}
 use native.Mathlib.Omega.{arith}
-use borrow.Author.Needs.{needs}
 use Rattle.walk.proofs.head_step.Statement.{statement}
 use Rattle.walk.proofs.head_step.Tie as tie
 

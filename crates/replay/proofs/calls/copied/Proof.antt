@@ -1,5 +1,5 @@
 -- `copied` reads inside what is lent and writes inside its words, which stay 4,096. Assumes nothing.
-use Prim.Native.Nat.{_≤_, _-_}
+use Prim.Native.Nat.{_-_}
 use mathlib.Core.Path.{_≡_}
 use lib.ListN.{length}
 use borrow.Author.Needs.{needs}
