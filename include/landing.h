@@ -64,9 +64,9 @@
  * level from the top, or l where the levels are each in order but do not agree with each other or with the number of pairs.
  *
  * WHAT IS TESTED. A store is sound if every word of it is as the rules of writing have it. What landing_format makes is sound, and landing_put
- * and landing_drop keep a sound store sound. landing_check and landing_list test all of the store; landing_ask, landing_put and landing_drop
- * test the directory, the head and the pages on the way to the pair, at most one in each lower level; and landing_put and landing_drop test
- * all of it before they merge. So a fault in a page keeps no other page's badges from being answered, and no merge spreads it. A changed
+ * and landing_drop keep a sound store sound. landing_check and landing_list test all of the store; landing_ask, landing_why, landing_put and
+ * landing_drop test the directory, the head and the pages on the way to the pair, at most one in each lower level; and landing_put and
+ * landing_drop test all of it before they merge. So a fault in a page keeps no other page's badges from being answered, and no merge spreads it. A changed
  * word can leave a store sound, as another index: no test here replaces a checksum.
  *
  *
@@ -132,6 +132,18 @@ uint32_t landing_drop(uint32_t *store, size_t n, uint32_t *work, size_t m, uint3
  * Replies 0, 1, 5, 6. Look at the reply before out[0], which with reply 6 is a level.
  */
 uint32_t landing_ask(const uint32_t *store, size_t n, uint32_t badge, uint32_t floor, uint32_t out[2]);
+
+/*
+ * Why may this badge call this floor, or why not? The walk of landing_ask, told level by level from the head down.
+ *
+ * out          out[0] and out[1] as landing_ask gives them; then five words for each level i from 0 to 3, out[2 + 5 * i] and on, all 0 for a
+ *              level that was not read: 1; the page read, 0 for the head; the slot where the walk stopped there, counted from 1: the last one
+ *              at or below the pair, 0 where a page of the bottom has none; the entry of this very pair in that slot: 0 none, 1 normal, which
+ *              is a yes, 2 a filter, which is a no; and the page of the next level that is followed, counted from 1, 0 on the last level read
+ *
+ * Replies 0, 1, 5, 6, as landing_ask replies, with the same first words of out. It reads what landing_ask reads.
+ */
+uint32_t landing_why(const uint32_t *store, size_t n, uint32_t badge, uint32_t floor, uint32_t out[22]);
 
 /*
  * Which pairs does the index hold, from (badge1, floor1) to (badge2, floor2), both included?

@@ -14,7 +14,8 @@ fn peer_answer(store: &mut [u32], call: Call) -> (u32, Vec<u32>, Vec<u32>, Vec<u
     let (mut work, mut slice) = (Vec::new(), Vec::new());
     let mut out = vec![7; 7];
     let number = match call {
-        Call::Ask(pair) => {
+        // The peer has no why. Its ask gives the number and the first two values of one.
+        Call::Ask(pair) | Call::Why(pair) => {
             out.truncate(2);
             let out = out.first_chunk_mut().expect("two");
             peer::ask(store, pair.badge, pair.floor, out)

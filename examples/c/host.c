@@ -4,7 +4,8 @@
  * The chip keeps each word of the store as four bytes, lowest byte first. The host writes the whole store to it after each accepted put or
  * drop, and reads it back after a restart. Power-cut recovery is no part of the index: after a cut inside a call the chip still holds the
  * store as it was last written, and the controller reloads that. A cut while the chip is being written is not dealt with here. At the end a
- * bit of the store is flipped, and each call that looks at it tells the level.
+ * bit of the store is flipped, and each call that looks at it tells the level. An ask that is answered no is followed by a why, which shows the
+ * way to the entry that decided, or that there is none.
  */
 #include "landing.h"
 
@@ -83,6 +84,28 @@ static void drop(uint32_t badge, uint32_t floor)
     changed(landing_drop(store, STORE_WORDS, work, WORK_WORDS, badge, floor, out), out);
 }
 
+/* Prints the way of a walk, a line for each level that it read. */
+static void why(uint32_t badge, uint32_t floor)
+{
+    static const char *const entries[] = {"no entry of the pair", "a normal entry", "a filter"};
+    uint32_t out[22];
+    if (landing_why(store, STORE_WORDS, badge, floor, out) != LANDING_DONE)
+        return;
+    for (uint32_t level = 0; level < L; level++) {
+        const uint32_t *line = out + 2 + 5 * level;
+        if (line[0] == 0)
+            break;
+        printf("  level %u, page %u: ", level, line[1]);
+        if (line[2] == 0)
+            printf("no slot at or below the pair");
+        else
+            printf("slot %u, %s", line[2] - 1, entries[line[3]]);
+        if (line[4] != 0)
+            printf(", on to page %u", line[4] - 1);
+        puts("");
+    }
+}
+
 static void ask(uint32_t badge, uint32_t floor)
 {
     uint32_t out[2];
@@ -93,6 +116,8 @@ static void ask(uint32_t badge, uint32_t floor)
     if (out[1] < L)
         printf(", decided by level %u", out[1]);
     puts("");
+    if (out[0] == 0)
+        why(badge, floor);
 }
 
 static void list(void)

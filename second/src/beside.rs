@@ -2,7 +2,7 @@
 //! store, work area, list and `out` compared after every call.
 
 use crate::call::{numbered, perform, Call};
-use crate::calls::{self, Reply};
+use crate::calls::{self, Reply, WHY_VALUES};
 use crate::damage::damaged;
 use crate::generate::Caller;
 use crate::geometry::{Geometry, HEAD_SLOTS, ONES};
@@ -67,6 +67,7 @@ pub fn out_words(call: Call) -> usize {
     match call {
         Call::Put(..) | Call::Drop(..) => 7,
         Call::Ask(_) | Call::List(..) => 2,
+        Call::Why(_) => WHY_VALUES,
         Call::Check => 1,
     }
 }
@@ -78,16 +79,21 @@ pub struct Difference {
     pub what: String,
 }
 
-/// A program beside the right build, with the calls compared so far.
+/// A program beside the right build, with the calls compared so far, and the whys among them.
 pub struct Beside<'a, P> {
     program: &'a P,
     pub calls: usize,
+    pub whys: usize,
 }
 
 impl<'a, P: Program> Beside<'a, P> {
     /// A comparison that has not begun.
     pub fn new(program: &'a P) -> Beside<'a, P> {
-        Beside { program, calls: 0 }
+        Beside {
+            program,
+            calls: 0,
+            whys: 0,
+        }
     }
 
     /// Compares formats and lengths for geometries in and around the ranges, on stores of right
@@ -153,7 +159,7 @@ impl<'a, P: Program> Beside<'a, P> {
         for number in 1..=calls {
             let call = caller.next_call();
             let title = || format!("call {number} of {geometry}, seed {seed}");
-            let told = self.call(&mut store, &mut right, call, title)?;
+            let told = self.call_and_why(&mut store, &mut right, call, title)?;
             caller.learn(
                 call,
                 &Reply {
@@ -179,9 +185,26 @@ impl<'a, P: Program> Beside<'a, P> {
         let (mut store, mut right) = (case.store.clone(), case.store.clone());
         for (number, call) in case.calls.iter().enumerate() {
             let title = || format!("call {} of {}, seed {seed}", number + 1, case.title);
-            self.call(&mut store, &mut right, *call, title)?;
+            self.call_and_why(&mut store, &mut right, *call, title)?;
         }
         Ok(())
+    }
+
+    /// Compares a call, and behind an ask, a put or a drop a why of its pair; gives what is right for
+    /// the call.
+    fn call_and_why(
+        &mut self,
+        store: &mut [u32],
+        right: &mut [u32],
+        call: Call,
+        title: impl Fn() -> String,
+    ) -> Result<Told, Difference> {
+        let told = self.call(store, right, call, &title)?;
+        if let Call::Ask(pair) | Call::Put(pair, _) | Call::Drop(pair, _) = call {
+            let title = || format!("behind {}", title());
+            self.call(store, right, Call::Why(pair), title)?;
+        }
+        Ok(told)
     }
 
     /// Makes a call on both stores, and compares all that it tells and leaves; gives what is right.
@@ -195,6 +218,7 @@ impl<'a, P: Program> Beside<'a, P> {
         let told = self.program.perform(store, call);
         let wanted = Variant::Right.perform(right, call);
         self.calls += 1;
+        self.whys += usize::from(matches!(call, Call::Why(_)));
         match other(&told, &wanted).or_else(|| first_other("the store", store, right)) {
             None => Ok(wanted),
             Some(what) => Err(Difference {
@@ -236,6 +260,7 @@ fn shown(call: Call) -> String {
     let two = |pair: Pair| format!("({}, {})", pair.badge, pair.floor);
     match call {
         Call::Ask(pair) => format!("ask {}", two(pair)),
+        Call::Why(pair) => format!("why {}", two(pair)),
         Call::Put(pair, _) => format!("put {}", two(pair)),
         Call::Drop(pair, _) => format!("drop {}", two(pair)),
         Call::List(first, last, _) => format!("list {} to {}", two(first), two(last)),

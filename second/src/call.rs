@@ -8,6 +8,7 @@ use crate::variant::Variant;
 #[derive(Clone, Copy, Debug, PartialEq, Eq)]
 pub enum Call {
     Ask(Pair),
+    Why(Pair),
     Put(Pair, usize),
     Drop(Pair, usize),
     List(Pair, Pair, usize),
@@ -27,6 +28,7 @@ pub fn perform(variant: Variant, store: &mut [u32], call: Call) -> Outcome {
     let (mut work, mut slice) = (Vec::new(), Vec::new());
     let reply = match call {
         Call::Ask(pair) => calls::ask(variant, store, pair),
+        Call::Why(pair) => calls::why(variant, store, pair),
         Call::Put(pair, length) => {
             work = numbered(0, length);
             calls::put(variant, store, &mut work, pair)

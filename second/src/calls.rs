@@ -6,7 +6,7 @@ use crate::slot::{Entry, Pair, Slot};
 use crate::sound::fault;
 use crate::tree::{Merged, Tree};
 use crate::variant::Variant;
-use crate::walk::{walk, Answer};
+use crate::walk::{trail, walk, Answer, Step};
 use crate::writing::write_tree;
 
 /// A reply number and the values that come with it.
@@ -28,6 +28,11 @@ pub const FULL: u32 = 4;
 pub const LENGTH: u32 = 5;
 /// Reply 6: a rule of soundness is broken at the level told.
 pub const UNSOUND: u32 = 6;
+
+/// The values of an accepted why: what ask answers, then five for each of four levels.
+pub const WHY_VALUES: usize = 2 + WHY_LEVEL_VALUES * MOST_LEVELS;
+/// The values that why tells of a level.
+pub const WHY_LEVEL_VALUES: usize = 5;
 
 /// A refused call: its number, and its level where the number is 6.
 struct Refusal {
@@ -80,6 +85,39 @@ pub fn ask(variant: Variant, store: &[u32], pair: Pair) -> Reply {
         let held = answer.held || variant == Variant::SaysHeld;
         Ok(vec![held as u32, answer.level as u32])
     }))
+}
+
+/// Tells why a pair is held or not: what ask answers, then what its walk met in each level.
+pub fn why(variant: Variant, store: &[u32], pair: Pair) -> Reply {
+    reply(open(variant, store).and_then(|geometry| {
+        let mut trail = trail(geometry, store, pair).map_err(unsound)?;
+        let answer = Answer::of(geometry, &trail);
+        if variant == Variant::WhyLastLevelOut {
+            trail.pop();
+        }
+        let mut values = vec![answer.held as u32, answer.level as u32];
+        values.extend(trail.iter().flat_map(|step| step_values(variant, step)));
+        values.resize(WHY_VALUES, 0);
+        Ok(values)
+    }))
+}
+
+/// The values of a level that was read: 1, its page, its slot and one more (0 for no slot), its entry
+/// (0 none, 1 normal, 2 filter), the page followed and one more (0 where the walk ends).
+fn step_values(variant: Variant, step: &Step) -> [u32; WHY_LEVEL_VALUES] {
+    let and_one = |number: Option<usize>| number.map_or(0, |number| number as u32 + 1);
+    let slot = match (variant, step.fence) {
+        (Variant::WhySlotOfFence, Some(fence)) => Some(fence.slot),
+        (Variant::WhyFirstSlot, _) => step.slot.or(Some(0)),
+        _ => step.slot,
+    };
+    let entry = match step.entry {
+        None => 0,
+        Some(entry) if entry.filter && variant != Variant::WhyFilterNormal => 2,
+        Some(_) => 1,
+    };
+    let followed = step.fence.map(|fence| fence.page);
+    [1, step.page as u32, and_one(slot), entry, and_one(followed)]
 }
 
 /// Lists the held pairs from the first to the last: the pairs written, and the mark.

@@ -98,6 +98,7 @@ impl Caller {
             86..88 => self.wrong_work(),
             88..93 if self.whole_store() => self.list(),
             93..95 if self.whole_store() => Call::Check,
+            98.. => Call::Why(self.some_pair()),
             _ => Call::Ask(self.some_pair()),
         }
     }

@@ -19,12 +19,15 @@ pub mod walk;
 pub mod calls;
 pub mod script;
 pub mod sheet;
+pub mod why;
 
 pub mod call;
 pub mod cases;
+pub mod sheet_vectors;
 pub mod vectors;
 
 pub mod beside;
+pub mod chips;
 pub mod damage;
 pub mod digest;
 pub mod generate;
@@ -33,6 +36,7 @@ pub mod plan;
 pub mod random;
 pub mod replay;
 pub mod sheets;
+pub mod whys;
 
 #[cfg(feature = "library")]
 pub mod library;

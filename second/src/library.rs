@@ -30,6 +30,13 @@ mod c {
             floor: u32,
             out: *mut [u32; 2],
         ) -> u32;
+        pub fn landing_why(
+            store: *const u32,
+            n: usize,
+            badge: u32,
+            floor: u32,
+            out: *mut [u32; 22],
+        ) -> u32;
         pub fn landing_list(
             store: *const u32,
             n: usize,
@@ -96,6 +103,11 @@ pub fn drop(
 /// Asks for a pair: held or not, and the deciding level.
 pub fn ask(store: &[u32], badge: u32, floor: u32, out: &mut [u32; 2]) -> u32 {
     unsafe { c::landing_ask(store.as_ptr(), store.len(), badge, floor, out) }
+}
+
+/// Tells why a pair is held or not: what ask answers, then five words for each of four levels.
+pub fn why(store: &[u32], badge: u32, floor: u32, out: &mut [u32; 22]) -> u32 {
+    unsafe { c::landing_why(store.as_ptr(), store.len(), badge, floor, out) }
 }
 
 /// Lists the held pairs from the first to the last: the pairs written, and the mark.

@@ -13,6 +13,7 @@ use std::time::Instant;
 
 use second::beside::{out_words, Beside, Difference, Numbers, Program, Told};
 use second::call::{numbered, Call};
+use second::calls::WHY_VALUES;
 use second::geometry::ONES;
 use second::library;
 use second::slot::Pair;
@@ -52,8 +53,10 @@ impl Program for Library {
         let (mut work, mut slice) = (Vec::new(), Vec::new());
         let mut seven = [ONES; 7];
         let (mut two, mut one) = ([ONES; 2], [ONES; 1]);
+        let mut trail = [ONES; WHY_VALUES];
         let number = match call {
             Call::Ask(Pair { badge, floor }) => library::ask(store, badge, floor, &mut two),
+            Call::Why(Pair { badge, floor }) => library::why(store, badge, floor, &mut trail),
             Call::Put(Pair { badge, floor }, length) => {
                 work = numbered(0, length);
                 library::put(store, &mut work, badge, floor, &mut seven)
@@ -70,6 +73,7 @@ impl Program for Library {
             Call::Check => library::check(store, &mut one),
         };
         let out = match out_words(call) {
+            WHY_VALUES => trail.to_vec(),
             7 => seven.to_vec(),
             2 => two.to_vec(),
             _ => one.to_vec(),
@@ -130,8 +134,9 @@ fn is_right<P: Program>(name: &str, program: &P) -> bool {
     let outcome = compare(&mut beside);
     match &outcome {
         Ok(()) => println!(
-            "{name}: {} calls, every word the same, in {} s",
+            "{name}: {} calls, {} of them whys, every word the same, in {} s",
             beside.calls,
+            beside.whys,
             start.elapsed().as_secs()
         ),
         Err(difference) => println!("{name}: {}", told(difference, beside.calls)),

@@ -1,5 +1,6 @@
 //! The second program's command line.
 
+use std::ffi::OsString;
 use std::io::{Read, Write};
 use std::path::Path;
 use std::process::ExitCode;
@@ -12,7 +13,7 @@ use second::random::Random;
 use second::script::Script;
 use second::variant::Variant;
 use second::vectors::{self, Case, Compared};
-use second::{cases, sheet, sheets};
+use second::{cases, chips, sheet, sheet_vectors, sheets, why, whys};
 
 /// What is printed when a command line is not understood.
 const USAGE: &str = "usage:
@@ -21,6 +22,9 @@ const USAGE: &str = "usage:
   second case-lines
   second sheet < INPUT
   second sheets FOLDER
+  second why BADGE FLOOR < CHIP
+  second whys FOLDER
+  second chips FOLDER
   second sequences [--seed S] [--calls N] H,k,l...
   second damaged [--seed S] [--cases N]
   second script [--seed S] [--cases N] FOLDER VECTORS
@@ -43,21 +47,12 @@ struct Line {
 
 /// Runs the command; the exit code is 1 for a difference found, 2 for a wrong command line.
 fn main() -> ExitCode {
-    let mut arguments = std::env::args().skip(1);
+    let mut arguments = std::env::args_os().skip(1);
     let command = arguments.next().unwrap_or_default();
-    let outcome = take_apart(arguments).and_then(|line| match command.as_str() {
-        "vectors" => run_vectors(&line),
-        "cases" => run_cases(&line),
-        "case-lines" => print_case_lines(),
-        "sheet" => run_sheet(),
-        "sheets" => write_sheets(&line),
-        "sequences" => print_sequences(&line),
-        "damaged" => print_damaged(&line),
-        "script" => write_script(&line),
-        "replay" => print_replay(&line),
-        "replays" => write_replays(&line),
-        _ => Err(USAGE.to_string()),
-    });
+    let outcome = match command.to_str() {
+        Some("why") => run_why(arguments.collect()),
+        command => run_command(command.unwrap_or_default(), arguments),
+    };
     match outcome {
         Ok(true) => ExitCode::SUCCESS,
         Ok(false) => ExitCode::from(1),
@@ -68,24 +63,49 @@ fn main() -> ExitCode {
     }
 }
 
+/// Runs a command that takes options; gives whether no difference was found.
+fn run_command(command: &str, arguments: impl Iterator<Item = OsString>) -> Result<bool, String> {
+    let line = take_apart(arguments.map(|argument| argument.to_string_lossy().into_owned()))?;
+    match command {
+        "vectors" => run_vectors(&line),
+        "cases" => run_cases(&line),
+        "case-lines" => print_case_lines(),
+        "sheet" => run_sheet(),
+        "sheets" => write_sheets(&line),
+        "sequences" => print_sequences(&line),
+        "damaged" => print_damaged(&line),
+        "script" => write_script(&line),
+        "replay" => print_replay(&line),
+        "replays" => write_replays(&line),
+        "whys" => write_whys(&line),
+        "chips" => write_chips(&line),
+        _ => Err(USAGE.to_string()),
+    }
+}
+
 /// Runs vector files and shows the first differences.
 fn run_vectors(line: &Line) -> Result<bool, String> {
     let variant = line.option("--build", Variant::Right)?;
     let mut compared = Compared::default();
     for file in &line.rest {
         let text = std::fs::read_to_string(file).map_err(|e| format!("{file}: {e}"))?;
-        vectors::run(variant, &text, &mut compared);
+        if sheet_vectors::are_in(&text) {
+            sheet_vectors::run(&text, &mut compared);
+        } else {
+            vectors::run(variant, &text, &mut compared);
+        }
     }
     for difference in compared.differences.iter().take(SHOWN) {
         println!("{difference}");
     }
     println!(
-        "{} cases, {} calls, {} differences",
+        "{} cases, {} calls, {} sheets, {} differences",
         compared.cases,
         compared.calls,
+        compared.sheets,
         compared.differences.len(),
     );
-    Ok(compared.differences.is_empty() && compared.cases > 0)
+    Ok(compared.differences.is_empty() && compared.cases + compared.sheets > 0)
 }
 
 /// Runs the bench table, one line a case.
@@ -116,10 +136,44 @@ fn print_case_lines() -> Result<bool, String> {
 
 /// Runs the sheet program on standard input.
 fn run_sheet() -> Result<bool, String> {
+    print_bytes(&sheet::run(&input()?))
+}
+
+/// All of standard input.
+fn input() -> Result<Vec<u8>, String> {
     let mut input = Vec::new();
     let mut stdin = std::io::stdin();
     stdin.read_to_end(&mut input).map_err(|e| e.to_string())?;
-    print_bytes(&sheet::run(&input))
+    Ok(input)
+}
+
+/// Runs the program `why` on these arguments and standard input; what it tells of wrong input is a
+/// message.
+fn run_why(arguments: Vec<OsString>) -> Result<bool, String> {
+    let arguments: Vec<&[u8]> = arguments.iter().map(|a| a.as_encoded_bytes()).collect();
+    let told = why::run(&arguments, &input()?);
+    if told.wrong {
+        return Err(told.text.trim_end().to_string());
+    }
+    print_bytes(told.text.as_bytes())
+}
+
+/// Writes inputs of the program `why` as a folder's stdin, and what it tells as its stdout.
+fn write_whys(line: &Line) -> Result<bool, String> {
+    let folder = line.rest.first().ok_or(USAGE)?;
+    let (read, printed) = whys::script();
+    write_file(folder, "stdin", &read)?;
+    write_file(folder, "stdout", &printed)
+}
+
+/// Writes the example chips into a folder.
+fn write_chips(line: &Line) -> Result<bool, String> {
+    let folder = line.rest.first().ok_or(USAGE)?;
+    for chip in chips::examples() {
+        let name = format!("{}.chip", chip.name);
+        write_file(folder, &name, &chips::bytes(&chip.store))?;
+    }
+    Ok(true)
 }
 
 /// Writes sheets one after another, each behind its length, as a folder's stdin, and what they print,
@@ -183,8 +237,7 @@ fn write_replays(line: &Line) -> Result<bool, String> {
 
 /// Writes what a program reads, numbers lowest byte first, and what it must print, in its folder.
 fn write_run(folder: &str, numbers: &[u32], text: &str) -> Result<bool, String> {
-    let bytes: Vec<u8> = numbers.iter().flat_map(|n| n.to_le_bytes()).collect();
-    write_file(folder, "stdin", &bytes)?;
+    write_file(folder, "stdin", &chips::bytes(numbers))?;
     write_file(folder, "stdout", text.as_bytes())
 }
 

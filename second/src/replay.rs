@@ -17,7 +17,7 @@
 //! c := draw(64)
 //! c of 0..43    the pair; put if filling, else drop
 //! c of 44..51   the pair; drop if filling, else put
-//! c of 52..60   the pair; ask
+//! c of 52..60   the pair; ask, then why of the same pair: two calls that count as one
 //! c = 61        the pair; put, lent the work area without its last word
 //! c = 62        the first pair, the second pair, n := draw(50);
 //!               list into n words, word j of which is 1000 + j
@@ -26,9 +26,9 @@
 //!
 //! After the call:
 //! 1. The digest of replies (see `digest`) is given the reply number, then its values: of an
-//!    accepted ask held and level, put and drop live, deepest, pages and the four counts, list
-//!    pairs and mark, format and check 0; of a refusal the level for 6, else 0. After a list
-//!    it is given the slice's n words. It starts with the first format.
+//!    accepted ask held and level, why its 22 words, put and drop live, deepest, pages and the
+//!    four counts, list pairs and mark, format and check 0; of a refusal the level for 6, else
+//!    0. After a list it is given the slice's n words. It starts with the first format.
 //! 2. After a put with reply 4: if draw(4) = 0, the mode is draining. After an accepted drop
 //!    that leaves live at most M / 4 (rounded down) it is filling.
 //! 3. If this is the last call, or the calls so far are a multiple of the interval, a line
@@ -201,10 +201,12 @@ impl Replay {
         self.note(reply)
     }
 
-    /// Asks for a pair.
+    /// Asks for a pair, and why the answer is as it is.
     fn ask(&mut self) -> Reply {
         let pair = self.pair();
         let reply = calls::ask(self.variant, &self.store, pair);
+        self.note(reply);
+        let reply = calls::why(self.variant, &self.store, pair);
         self.note(reply)
     }
 

@@ -9,14 +9,16 @@
 //! 5 badge floor n                put, with a work area of n words, of which word j is j
 //! 6 badge floor n                drop, likewise
 //! 7 H k l                        format
+//! 8 badge floor                  why
 //! ```
 //!
-//! Each call prints a line: the reply's number and its values (seven after a put or drop, two after an
-//! ask, list or check, none after a format), after a list its words, and after a put, drop or format
-//! the words that it changed: ` 8=2 12=0*3` says that word 8 is 2 now, and that words 12 to 14 are 0.
+//! Each call prints a line: the reply's number and its values (seven after a put or drop, 22 after a
+//! why, two after an ask, list or check, none after a format; a refusal has zeros for those that it
+//! does not give), after a list its words, and after a put, drop or format the words that it changed:
+//! ` 8=2 12=0*3` says that word 8 is 2 now, and that words 12 to 14 are 0.
 
 use crate::call::{numbered, perform, Call};
-use crate::calls;
+use crate::calls::{self, WHY_VALUES};
 use crate::damage::damaged;
 use crate::generate::formatted;
 use crate::random::Random;
@@ -26,7 +28,7 @@ use crate::variant::Variant;
 use crate::vectors::{self, Case};
 
 /// The words that the replay program has for a store, a work area or a list.
-const MOST_WORDS: usize = 4096;
+pub const MOST_WORDS: usize = 4096;
 
 /// The longest damaged store that a script has beside those of the vectors, which keeps it small.
 const SHORT_STORE: usize = 260;
@@ -43,15 +45,16 @@ pub struct Script {
 }
 
 impl Script {
-    /// The script of these vectors and of `cases` damaged cases from a seed, those with a long store
-    /// left out.
+    /// The script of these vectors, those left out that lend more words than the replay program has,
+    /// and of `cases` damaged cases from a seed, those with a long store left out.
     pub fn of(variant: Variant, texts: &[String], seed: u64, cases: usize) -> Script {
         let mut script = Script {
             variant,
             numbers: Vec::new(),
             lines: Vec::new(),
         };
-        for case in texts.iter().flat_map(|text| vectors::cases(text)) {
+        let cases_of_vectors = texts.iter().flat_map(|text| vectors::cases(text));
+        for case in cases_of_vectors.filter(|case| most_lent(case) <= MOST_WORDS) {
             script.add(&case);
         }
         let mut random = Random::new(seed);
@@ -111,7 +114,7 @@ impl Script {
         let edits = matches!(call, Call::Put(..) | Call::Drop(..));
         let mut told = vec![outcome.reply.number];
         told.extend(outcome.reply.values);
-        told.resize(if edits { 8 } else { 3 }, 0);
+        told.resize(1 + values(call), 0);
         told.extend(outcome.slice);
         let items: Vec<String> = told.iter().map(u32::to_string).collect();
         let mut line = items.join(" ");
@@ -133,6 +136,24 @@ impl Script {
     }
 }
 
+/// The most words that a case lends for one thing: its store, a work area or a list.
+fn most_lent(case: &Case) -> usize {
+    let beside_the_store = case.calls.iter().map(|call| match call {
+        Call::Put(_, length) | Call::Drop(_, length) | Call::List(_, _, length) => *length,
+        Call::Ask(_) | Call::Why(_) | Call::Check => 0,
+    });
+    beside_the_store.fold(case.store.len(), usize::max)
+}
+
+/// The values that a call's line has.
+fn values(call: Call) -> usize {
+    match call {
+        Call::Put(..) | Call::Drop(..) => 7,
+        Call::Why(_) => WHY_VALUES,
+        Call::Ask(_) | Call::List(..) | Call::Check => 2,
+    }
+}
+
 /// The numbers of a call.
 fn numbers(call: Call) -> Vec<u32> {
     let words = |length: usize| {
@@ -142,6 +163,7 @@ fn numbers(call: Call) -> Vec<u32> {
     let two = |pair: Pair| [pair.badge, pair.floor];
     match call {
         Call::Ask(pair) => [&[2][..], &two(pair)].concat(),
+        Call::Why(pair) => [&[8][..], &two(pair)].concat(),
         Call::Check => vec![3],
         Call::List(first, last, length) => {
             [&[4][..], &two(first), &two(last), &[words(length)]].concat()

@@ -111,7 +111,7 @@ fn ranged(
 }
 
 /// A decimal number of at most 32 bits without leading zeros.
-fn decimal(digits: &[u8]) -> Option<u32> {
+pub fn decimal(digits: &[u8]) -> Option<u32> {
     let plain = !digits.is_empty() && digits.iter().all(u8::is_ascii_digit);
     let leading_zero = digits.len() > 1 && digits[0] == b'0';
     if !plain || leading_zero || digits.len() > 10 {

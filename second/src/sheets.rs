@@ -227,6 +227,6 @@ fn request(call: Call) -> Option<String> {
         Call::Put(pair, _) => Some(group("put", pair)),
         Call::Drop(pair, _) => Some(group("drop", pair)),
         Call::Ask(pair) => Some(group("ask", pair)),
-        Call::List(..) | Call::Check => None,
+        Call::Why(_) | Call::List(..) | Call::Check => None,
     }
 }

@@ -29,10 +29,18 @@ pub enum Variant {
     PagesZero,
     /// Put and drop report one page too many for a merge.
     PagesOneMore,
+    /// Why tells the slot of the fence followed, not the last slot at most the pair.
+    WhySlotOfFence,
+    /// Why tells slot 0 of a bottom page that has no slot at most the pair.
+    WhyFirstSlot,
+    /// Why tells a filter as a normal entry.
+    WhyFilterNormal,
+    /// Why leaves out the last level read.
+    WhyLastLevelOut,
 }
 
 /// Every false build.
-pub const FALSE_BUILDS: [Variant; 12] = [
+pub const FALSE_BUILDS: [Variant; 16] = [
     Variant::PageByte,
     Variant::CancelOnlyFilterAbove,
     Variant::DropUnmatchedFilter,
@@ -45,6 +53,10 @@ pub const FALSE_BUILDS: [Variant; 12] = [
     Variant::ListFirstOnly,
     Variant::PagesZero,
     Variant::PagesOneMore,
+    Variant::WhySlotOfFence,
+    Variant::WhyFirstSlot,
+    Variant::WhyFilterNormal,
+    Variant::WhyLastLevelOut,
 ];
 
 impl std::str::FromStr for Variant {

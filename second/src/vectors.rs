@@ -10,7 +10,7 @@ use crate::geometry::ONES;
 use crate::slot::Pair;
 use crate::variant::Variant;
 
-/// The vector files of a folder.
+/// The vector files of a folder that hold cases.
 const FILES: [&str; 2] = ["damaged.txt", "sequences.txt"];
 
 /// A case: what its first line says, its store before the first call, and its calls.
@@ -26,16 +26,19 @@ pub struct Case {
 pub struct Compared {
     pub cases: usize,
     pub calls: usize,
+    pub sheets: usize,
     pub differences: Vec<String>,
 }
 
-/// The texts of a folder's vector files.
+/// The texts of a folder's vector files that hold cases.
 pub fn texts(folder: &Path) -> Result<Vec<String>, String> {
-    let read = |name: &&str| {
-        let path = folder.join(name);
-        std::fs::read_to_string(&path).map_err(|e| format!("{}: {e}", path.display()))
-    };
-    FILES.iter().map(read).collect()
+    FILES.iter().map(|name| read(folder, name)).collect()
+}
+
+/// The text of a file of a folder.
+pub fn read(folder: &Path, name: &str) -> Result<String, String> {
+    let path = folder.join(name);
+    std::fs::read_to_string(&path).map_err(|e| format!("{}: {e}", path.display()))
 }
 
 /// Runs every case of a vector file's text, and adds what it came to.
@@ -128,6 +131,7 @@ fn parse_call(line: &str) -> Option<Call> {
     };
     match (parts[0], &parts[1..]) {
         ("ask", [_, _]) => Some(Call::Ask(pair(1)?)),
+        ("why", [_, _]) => Some(Call::Why(pair(1)?)),
         ("put", [_, _, "work", length]) => Some(Call::Put(pair(1)?, length.parse().ok()?)),
         ("drop", [_, _, "work", length]) => Some(Call::Drop(pair(1)?, length.parse().ok()?)),
         ("list", [_, _, _, _, "slice", length]) => {
@@ -169,7 +173,7 @@ fn write_call(variant: Variant, store: &mut [u32], call: Call, lines: &mut Vec<S
             lines.push(work_line(&outcome.work));
         }
         Call::List(..) => lines.push(format!("slice {}", write_words(&outcome.slice))),
-        Call::Ask(_) | Call::Check => {}
+        Call::Ask(_) | Call::Why(_) | Call::Check => {}
     }
 }
 
@@ -178,6 +182,7 @@ fn call_line(call: Call) -> String {
     let two = |pair: Pair| format!("{} {}", pair.badge, pair.floor);
     match call {
         Call::Ask(pair) => format!("ask {}", two(pair)),
+        Call::Why(pair) => format!("why {}", two(pair)),
         Call::Put(pair, length) => format!("put {} work {length}", two(pair)),
         Call::Drop(pair, length) => format!("drop {} work {length}", two(pair)),
         Call::List(first, last, length) => {

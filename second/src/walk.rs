@@ -3,7 +3,7 @@
 use crate::form::{directory_holds, head_holds, page_holds};
 use crate::geometry::Geometry;
 use crate::reading;
-use crate::slot::{Kind, Pair, Slot};
+use crate::slot::{Entry, Pair, Slot};
 
 /// What a walk finds: whether the pair is held, and the deciding level, or l.
 #[derive(Clone, Copy, Debug, PartialEq, Eq)]
@@ -12,41 +12,93 @@ pub struct Answer {
     pub level: usize,
 }
 
+/// What a walk meets in one level.
+#[derive(Clone, Copy, Debug, PartialEq, Eq)]
+pub struct Step {
+    /// The page read; the head's is 0.
+    pub page: usize,
+    /// The last slot at most the pair, counted from 0. Only a bottom page may have none.
+    pub slot: Option<usize>,
+    /// The index entry in that slot, if it is one of just that pair. It decides.
+    pub entry: Option<Entry>,
+    /// The fence followed to the next level, where the walk goes on.
+    pub fence: Option<Fence>,
+}
+
+/// A fence on a walk: its slot, and the page that it names.
+#[derive(Clone, Copy, Debug, PartialEq, Eq)]
+pub struct Fence {
+    pub slot: usize,
+    pub page: usize,
+}
+
 /// Walks to a pair; the error is the level of the first fault met.
 pub fn walk(geometry: Geometry, store: &[u32], asked: Pair) -> Result<Answer, usize> {
+    let trail = trail(geometry, store, asked)?;
+    Ok(Answer::of(geometry, &trail))
+}
+
+/// The steps of the walk to a pair, one for each level read, from the head down; the error is the
+/// level of the first fault met.
+pub fn trail(geometry: Geometry, store: &[u32], asked: Pair) -> Result<Vec<Step>, usize> {
     if !directory_holds(geometry, store) || !head_holds(geometry, store) {
         return Err(0);
     }
-    let mut slots = reading::head(geometry, store);
-    for level in 0..geometry.levels() {
-        if let Some(held) = decision(&slots, asked) {
-            return Ok(Answer { held, level });
-        }
-        match next_page(&slots, asked) {
-            Some(page) if level < geometry.bottom() => {
-                slots = walked_page(geometry, store, level + 1, page, asked)?;
-            }
-            _ => break,
+    let mut trail = vec![Step::on(0, &reading::head(geometry, store), asked)];
+    for level in 1..geometry.levels() {
+        let Some(fence) = trail[level - 1].fence else {
+            break;
+        };
+        let slots = walked_page(geometry, store, level, fence.page, asked)?;
+        trail.push(Step::on(fence.page, &slots, asked));
+    }
+    Ok(trail)
+}
+
+impl Answer {
+    /// What a trail comes to: its last step decides, or none does.
+    pub fn of(geometry: Geometry, trail: &[Step]) -> Answer {
+        match trail.last().and_then(|step| step.entry) {
+            Some(entry) => Answer {
+                held: !entry.filter,
+                level: trail.len() - 1,
+            },
+            None => Answer {
+                held: false,
+                level: geometry.levels(),
+            },
         }
     }
-    Ok(Answer {
-        held: false,
-        level: geometry.levels(),
-    })
 }
 
-/// What the last slot at most the pair decides, if it is an index entry of just that pair.
-fn decision(slots: &[Slot], asked: Pair) -> Option<bool> {
-    let last = slots.iter().rfind(|slot| slot.pair <= asked)?;
-    let decides = last.is_entry() && last.pair == asked;
-    decides.then_some(last.kind == Kind::Normal)
+impl Step {
+    /// The step on the used slots of the head or of a page.
+    fn on(page: usize, slots: &[Slot], asked: Pair) -> Step {
+        let slot = slots.iter().rposition(|slot| slot.pair <= asked);
+        let entry = slot
+            .and_then(|at| Entry::of_slot(&slots[at]))
+            .filter(|entry| entry.pair == asked);
+        let fence = slot
+            .filter(|_| entry.is_none())
+            .and_then(|last| Fence::back_from(last, slots));
+        Step {
+            page,
+            slot,
+            entry,
+            fence,
+        }
+    }
 }
 
-/// The page named by the first fence met stepping back from the last slot at most the pair.
-fn next_page(slots: &[Slot], asked: Pair) -> Option<usize> {
-    let last = slots.iter().rposition(|slot| slot.pair <= asked)?;
-    let fence = slots[..=last].iter().rfind(|slot| slot.is_fence())?;
-    Some(fence.page as usize)
+impl Fence {
+    /// The first fence met stepping back from a slot.
+    fn back_from(last: usize, slots: &[Slot]) -> Option<Fence> {
+        let slot = slots[..=last].iter().rposition(Slot::is_fence)?;
+        Some(Fence {
+            slot,
+            page: slots[slot].page as usize,
+        })
+    }
 }
 
 /// The slots of a page on the walk, once it has passed the tests of a walked page.

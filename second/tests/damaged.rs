@@ -39,7 +39,24 @@ fn call(store: &mut [u32], call: Call) -> u32 {
     } else if writes {
         accepted(&before, store, &reply.values, &outcome.work);
     }
+    if let Call::Ask(pair) | Call::Why(pair) = call {
+        why_answers_as_ask_does(store, pair);
+    }
     reply.number
+}
+
+/// Why has the number and the first values of ask, and names an entry just where one decides.
+fn why_answers_as_ask_does(store: &[u32], pair: Pair) {
+    let ask = calls::ask(Variant::Right, store, pair);
+    let why = calls::why(Variant::Right, store, pair);
+    assert_eq!(why.number, ask.number);
+    assert_eq!(why.values[..ask.values.len()], ask.values);
+    if why.number == 0 {
+        let levels: Vec<&[u32]> = why.values[2..].chunks(5).collect();
+        let named = levels.iter().position(|level| level[3] > 0);
+        assert_eq!(named.unwrap_or(store[2] as usize) as u32, ask.values[1]);
+        assert_eq!(levels.iter().any(|level| level[3] == 1), ask.values[0] == 1);
+    }
 }
 
 /// An accepted put or drop changes live by one, and without a merge only directory and head.
@@ -118,6 +135,7 @@ fn every_call_answers_on_words_of_any_sort() {
             let slice = random.below(9);
             let made = *random.pick(&[
                 Call::Ask(pair),
+                Call::Why(pair),
                 Call::Put(pair, work),
                 Call::Drop(pair, work),
                 Call::List(LEAST, pair, slice),

@@ -26,14 +26,14 @@ fn pinned_replays() {
     let pinned = |text, seed, damage| lines(text, seed, damage, 2000, 2000).join("\n");
     assert_eq!(
         pinned("4,2,3", 1, None),
-        "calls 2000 live 7 store 360e4a38eeb3cfc4 work f5f45328a8ebdb25 replies 416607a4c16b2c6c",
+        "calls 2000 live 7 store 360e4a38eeb3cfc4 work f5f45328a8ebdb25 replies 3b03741d0a4f900e",
     );
     assert_eq!(
         pinned("4,2,3", 1, Some(40)),
-        "calls 2000 live 16 store fc3bb61070e86b87 work f5f45328a8ebdb25 replies d84c69577cad4c7b",
+        "calls 2000 live 16 store fc3bb61070e86b87 work f5f45328a8ebdb25 replies 6b11098bec98aa2a",
     );
     assert_eq!(
         pinned("16,4,3", 7, None),
-        "calls 2000 live 89 store 6ffb686fe53d4bf0 work c081fdb636a83ba5 replies 03d566cf625b6e0e",
+        "calls 2000 live 89 store 6ffb686fe53d4bf0 work c081fdb636a83ba5 replies e9e833b4e4382e7a",
     );
 }

@@ -2,7 +2,9 @@
 
 mod common;
 
-use second::script::Script;
+use std::collections::BTreeSet;
+
+use second::script::{Script, MOST_WORDS};
 use second::variant::{Variant, FALSE_BUILDS};
 use second::vectors;
 
@@ -13,15 +15,38 @@ fn lines(variant: Variant) -> Vec<String> {
     script.lines.into_iter().filter(|l| !formats(l)).collect()
 }
 
+/// The texts of the vectors without the cases whose store is longer than the replay program's, and how
+/// many those are.
+fn short_texts() -> (Vec<String>, usize) {
+    let mut long = 0;
+    let mut short = |block: &[&str]| {
+        let length = block[1].split(' ').nth(1).expect("a length");
+        let fits = length.parse::<usize>().expect("a number") <= MOST_WORDS;
+        long += usize::from(!fits);
+        fits
+    };
+    let mut texts = common::vector_texts();
+    for text in &mut texts {
+        let lines: Vec<&str> = text.lines().collect();
+        let blocks = lines.chunk_by(|_, next| !next.starts_with("case "));
+        *text = blocks
+            .filter(|block| short(block))
+            .collect::<Vec<_>>()
+            .concat()
+            .join("\n");
+    }
+    (texts, long)
+}
+
 /// What a printed line says, in the words of the vectors: what follows `reply`, with the first `values`
-/// values, and then `after` and `workafter` or `slice` if the call has them.
-fn said(line: &str, values: usize) -> Vec<String> {
+/// of the line's `room` values, and then `after` and `workafter` or `slice` if the call has them.
+fn said(line: &str, values: usize, room: usize) -> Vec<String> {
     let (line, work) = line.split_once(" work").unwrap_or((line, ""));
     let (numbers, store) = line.split_once(" store").unwrap_or((line, ""));
     let edited = numbers.len() < line.len();
     let numbers: Vec<&str> = numbers.split(' ').collect();
     let (told, rest) = numbers.split_at(1 + values);
-    let (padding, slice) = rest.split_at(if edited { 7 } else { 2 } - values);
+    let (padding, slice) = rest.split_at(room - values);
     assert!(padding.iter().all(|number| *number == "0"), "{line}");
     let mut said = vec![format!("{} values {}", told[0], told[1..].join(" "))];
     if edited {
@@ -49,26 +74,32 @@ fn changed(runs: &str) -> String {
     }
 }
 
-/// The answers of vectors, call by call, without the first words of their lines.
-fn answers(text: &str) -> Vec<Vec<String>> {
-    let mut answers: Vec<Vec<String>> = Vec::new();
-    let mut work = "";
+/// The answers of vectors, call by call: how many values the printed line has, and what the vectors'
+/// lines say behind their first words.
+fn answers(text: &str) -> Vec<(usize, Vec<String>)> {
+    let mut answers: Vec<(usize, Vec<String>)> = Vec::new();
+    let (mut room, mut work) = (0, "");
     for line in text.lines() {
         let (word, rest) = line.split_once(' ').unwrap_or((line, ""));
         let answer = match (word, rest) {
             ("reply", _) => {
-                answers.push(Vec::new());
+                answers.push((room, Vec::new()));
                 rest.to_string()
             }
             ("workafter", "ones") => changed(&format!("0=4294967295*{work}")),
             ("after" | "workafter", _) => rest.to_string(),
             ("slice", words) if !words.is_empty() => spelt(words),
             _ => {
+                room = match word {
+                    "put" | "drop" => 7,
+                    "why" => 22,
+                    _ => 2,
+                };
                 work = rest.rsplit(' ').next().unwrap_or("");
                 continue;
             }
         };
-        answers.last_mut().expect("a call").push(answer);
+        answers.last_mut().expect("a call").1.push(answer);
     }
     answers
 }
@@ -84,16 +115,25 @@ fn spelt(words: &str) -> String {
 
 #[test]
 fn every_vector_is_replayed_as_it_stands() {
-    let wanted: Vec<Vec<String>> = common::vector_texts()
-        .iter()
-        .flat_map(|text| answers(text))
-        .collect();
+    let (texts, long) = short_texts();
+    assert_eq!(long, 1, "cases that the replay program has no room for");
+    let wanted: Vec<_> = texts.iter().flat_map(|text| answers(text)).collect();
     let lines = lines(Variant::Right);
     assert_eq!(lines.len(), wanted.len());
-    for (line, wanted) in lines.iter().zip(&wanted) {
+    for (line, (room, wanted)) in lines.iter().zip(&wanted) {
         let values = wanted[0].split(' ').count() - 2;
-        assert_eq!(&said(line, values), wanted, "{line}");
+        assert_eq!(&said(line, values, *room), wanted, "{line}");
     }
+    assert!(wanted.iter().any(|(room, _)| *room == 22), "no why");
+}
+
+#[test]
+fn damaged_stores_are_asked_why_too() {
+    let script = Script::of(Variant::Right, &[], 7, 1200);
+    let first = |line: &str| line.split(' ').next().map(str::to_string);
+    let whys = script.lines.iter().filter(|l| l.split(' ').count() == 23);
+    let replies: BTreeSet<_> = whys.filter_map(|line| first(line)).collect();
+    assert_eq!(replies, ["0", "1", "5", "6"].map(str::to_string).into());
 }
 
 #[test]

@@ -8,6 +8,7 @@ use second::call::{numbered, perform, Call, Outcome};
 use second::calls;
 use second::generate::{formatted, Caller};
 use second::geometry::{Geometry, ONES};
+use second::layout::{lay_tree, Page};
 use second::slot::Pair;
 use second::tree::{Merged, Tree};
 use second::variant::Variant;
@@ -51,6 +52,7 @@ impl Beside {
         }
         match call {
             Call::Ask(pair) => assert_eq!(outcome.reply.values, self.answer(pair)),
+            Call::Why(pair) => assert_eq!(outcome.reply.values, self.why(pair)),
             Call::List(first, last, length) => self.listed(first, last, length, &outcome),
             Call::Put(pair, _) if number == 0 => self.updated(pair, true, &outcome, check_every),
             Call::Drop(pair, _) if number == 0 => self.updated(pair, false, &outcome, check_every),
@@ -80,6 +82,27 @@ impl Beside {
         let level = self.tree.levels.iter().position(has);
         let held = self.set.contains(&pair);
         vec![held as u32, level.unwrap_or(self.geometry.levels()) as u32]
+    }
+
+    /// What why must say: the answer, and for each level down to the deciding one the page of the
+    /// tree's layout that is the last to begin at or below the pair.
+    fn why(&self, pair: Pair) -> Vec<u32> {
+        let mut values = self.answer(pair);
+        let laid = lay_tree(&self.tree, Variant::Right);
+        let levels: Vec<Vec<Page>> = [vec![laid.head]].into_iter().chain(laid.levels).collect();
+        let begins = |page: &Page| page.first().is_some_and(|slot| slot.pair <= pair);
+        let page = |level: usize| levels[level].iter().rposition(begins).unwrap_or(0);
+        let last = (values[1] as usize).min(self.geometry.bottom());
+        for level in 0..=last {
+            let slots = &levels[level][page(level)];
+            let slot = slots.iter().filter(|slot| slot.pair <= pair).count();
+            let mut own = self.tree.levels[level].iter().filter(|e| e.pair == pair);
+            let entry = own.next().map_or(0, |entry| 1 + u32::from(entry.filter));
+            let followed = if level < last { page(level + 1) + 1 } else { 0 };
+            values.extend([1, page(level) as u32, slot as u32, entry, followed as u32]);
+        }
+        values.resize(22, 0);
+        values
     }
 
     /// Compares a list with the set's range.
@@ -150,6 +173,7 @@ impl Beside {
 fn name(call: Call) -> &'static str {
     match call {
         Call::Ask(_) => "ask",
+        Call::Why(_) => "why",
         Call::Put(..) => "put",
         Call::Drop(..) => "drop",
         Call::List(..) => "list",
@@ -174,6 +198,7 @@ fn run(text: &str, seed: u64, calls: usize, check_every: usize) -> BTreeSet<Stri
 fn wanted(geometry: Geometry) -> BTreeSet<String> {
     let mut wanted: BTreeSet<String> = [
         "ask reply 0",
+        "why reply 0",
         "put reply 0",
         "put reply 2",
         "put reply 4",

@@ -2,6 +2,7 @@
 
 mod common;
 
+use second::sheet_vectors;
 use second::variant::Variant;
 use second::vectors::{run, Compared};
 
@@ -30,7 +31,11 @@ fn all_vectors_are_given() {
     for text in common::vector_texts() {
         let mut compared = Compared::default();
         run(Variant::Right, &text, &mut compared);
-        assert!(compared.differences.is_empty(), "{:#?}", compared.differences);
+        assert!(
+            compared.differences.is_empty(),
+            "{:#?}",
+            compared.differences
+        );
         assert_eq!(compared.cases, count(&text, "case"));
         assert_eq!(compared.calls, count(&text, "reply"));
         assert!(compared.cases > 0 && compared.calls > 0);
@@ -45,5 +50,47 @@ fn a_changed_answer_is_a_difference() {
             run(Variant::Right, &changed(&text, word), &mut compared);
             assert_eq!(compared.differences.len(), 1, "{word}");
         }
+    }
+}
+
+/// What running a text of sheets came to.
+fn run_sheets(text: &str) -> Compared {
+    let mut compared = Compared::default();
+    sheet_vectors::run(text, &mut compared);
+    compared
+}
+
+#[test]
+fn all_sheets_are_given() {
+    let text = common::sheet_text();
+    assert!(sheet_vectors::are_in(&text));
+    let compared = run_sheets(&text);
+    assert!(
+        compared.differences.is_empty(),
+        "{:#?}",
+        compared.differences
+    );
+    assert_eq!(compared.sheets, count(&text, "sheet"));
+    assert!(compared.sheets > 0);
+}
+
+#[test]
+fn a_changed_line_of_a_sheet_is_a_difference() {
+    let text = common::sheet_text();
+    let lines: Vec<&str> = text.lines().collect();
+    for (at, line) in [
+        (0, "sheet 1 0"),
+        (1, "00"),
+        (2, "6c696e653d370a"),
+        (2, "x"),
+        (2, "0"),
+    ] {
+        let mut changed = lines.clone();
+        changed[at] = line;
+        assert_eq!(
+            run_sheets(&changed.join("\n")).differences.len(),
+            1,
+            "{line}"
+        );
     }
 }

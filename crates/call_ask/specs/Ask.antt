@@ -1,8 +1,10 @@
 -- Ask on any words: the paper's numbers for what src/lib.rt answers, and the answer as a total function of words and pair. Assumes nothing.
-use Prim.Native.Nat.{ℕ, suc}
-use mathlib.Core.Path.{_≡_}
-use mathlib.Core.Bool.{cond}
+use Prim.Native.Nat.{ℕ, zero, suc}
+use native.Mathlib.Omega.{arith}
+use mathlib.Core.Path.{_≡_, refl, ap, _∙_}
+use mathlib.Core.Bool.{Bool, true, false, cond}
 use mathlib.Core.List.{List, [], _∷_, _++_}
+use lib.ListN.{getD}
 use Rattle.geometry.specs.declared.Geometry.{Geometry}
 use Rattle.slot.specs.declared.Pair.{Pair}
 use Rattle.geometry.specs.Directory.{geometryOf}
@@ -11,7 +13,7 @@ use Rattle.walk.specs.declared.Walked.the-variants.{Found, Fault as Fault-of-wa
 use Rattle.walk.specs.Walk.{walked}
 use Rattle.call_ask.specs.declared.Asked.{Asked}
 use Rattle.call_ask.specs.declared.Asked.the-variants.{Answer, Range, Length, Fault}
-use Rattle.opening.specs.Reply.{Reply, faultValues, unless}
+use Rattle.opening.specs.Reply.{Reply, replied, faultValues, unless}
 use Rattle.opening.specs.declared.Opened.the-variants.{Store}
 use Rattle.opening.specs.Opening.{opening, Opens}
 
@@ -42,3 +44,44 @@ module _ (w : List ℕ) (pair : Pair) where
 
   pub ask-opened : (g : Geometry) → Opens w (Store g) → walkReply (walked g w pair) ≡ askOf w pair
   ask-opened g o = rw (o .1) (ask-walked (o .0))
+
+  -- A reply has two values.
+  pub two-values : askOf w pair .values ≡ getD (askOf w pair .values) 0 0 ∷ getD (askOf w pair .values) 1 0 ∷ []
+  unfolding askOf
+  two-values = by (opening w) (walked (geometryOf w) w pair)
+    where
+      by : (n : ℕ) (walk : Walked) → (unless n (0 ∷ 0 ∷ []) (walkReply walk)) .values ≡
+          getD ((unless n (0 ∷ 0 ∷ []) (walkReply walk)) .values) 0 0 ∷ getD ((unless n (0 ∷ 0 ∷ []) (walkReply walk)) .values) 1 0 ∷ []
+      by zero (Found held level) = refl
+      by zero (Fault-of-walk fault) = refl
+      by (suc n) walk = refl
+
+  pub ask-values : (number : ℕ) (values : List ℕ) → replied number values ≡ askOf w pair → values ≡ getD values 0 0 ∷ getD values 1 0 ∷ []
+  ask-values number values e = let v = ap (λ (r : Reply). r .values) e in rw v two-values
+
+  -- An answer is the walk's.
+  pub ask-found : (held : Bool) (level : ℕ) → askOf w pair ≡ walkReply (Found held level) → (opening w ≡ 0) × (walked (geometryOf w) w pair ≡ Found held level)
+  unfolding askOf
+  ask-found held level e = by (opening w) refl (walked (geometryOf w) w pair) refl
+    where
+      not-done : (n : ℕ) → suc n ≡ 0 → ⊥
+      not-done n z = omega (arith, z)
+
+      same-held : (a b : Bool) → _≡_ {A = ℕ} (cond a 1 0) (cond b 1 0) → a ≡ b
+      same-held true true z = refl
+      same-held true false z = absurd (omega (arith, z))
+      same-held false true z = absurd (omega (arith, z))
+      same-held false false z = refl
+
+      same-found : (b : Bool) (i : ℕ) → walkReply (Found b i) ≡ walkReply (Found held level) → Found b i ≡ Found held level
+      same-found b i z =
+          let values = ap (λ (r : Reply). r .values) z in
+          let one = same-held b held (ap (λ (l : List ℕ). getD l 0 0) values) in
+          let two : i ≡ level = ap (λ (l : List ℕ). getD l 1 0) values in
+          rw (one, two) refl
+
+      by : (n : ℕ) → opening w ≡ n → (walk : Walked) → walked (geometryOf w) w pair ≡ walk →
+          (opening w ≡ 0) × (walked (geometryOf w) w pair ≡ Found held level)
+      by zero o (Found b i) f = (o, f ∙ same-found b i (rw (o, f) at e))
+      by zero o (Fault-of-walk fault) f = absurd (not-done 5 (ap (λ (r : Reply). r .number) (rw (o, f) at e)))
+      by (suc n) o walk f = absurd (not-done n (ap (λ (r : Reply). r .number) (rw o at e)))

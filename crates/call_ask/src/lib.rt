@@ -37,7 +37,14 @@ fn ask_open(store: &[u32], g: Geometry, pair: Pair) -> Asked
     ensures { λ r. ⌜ askReply r ≡ walkReply (walked g (now (store .entry)) pair) ⌝ }
 {
     let plan = geometry::plan_for(g);
-    match walk::walk_down(store, g, plan, pair) {
+    asked_from(walk::walk_down(store, g, plan, pair))
+}
+
+// What a walk answers.
+pub fn asked_from(walked: Walked) -> Asked
+    ensures { λ r. ⌜ askReply r ≡ walkReply walked ⌝ }
+{
+    match walked {
         Walked::Found(held, level) => Asked::Answer(held, level),
         Walked::Fault(fault) => Asked::Fault(fault),
     }

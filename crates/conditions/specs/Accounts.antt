@@ -19,7 +19,7 @@ use Rattle.rules.specs.Allowance.{allowed}
 use Rattle.promises.specs.Sets.{Holds, step-agrees}
 use Rattle.promises.specs.Allowed.{reported, reported-allowed}
 use Rattle.opening.specs.Reply.{Reply}
-use Rattle.conditions.specs.Calls.{Task, formatting, changing, asking, listing, checking, Call, TaskFits, CallsFit, Made, make, history}
+use Rattle.conditions.specs.Calls.{Task, formatting, changing, asking, explaining, listing, checking, Call, TaskFits, CallsFit, Made, make, history}
 use Rattle.conditions.specs.Lengths.{refusal, passed, given, geometryThen, geometryAfter}
 use Rattle.conditions.specs.Plain.{Answer, answerTo, answered, setThen, refusing-number}
 use Rattle.conditions.specs.Seen.{seen-number}
@@ -93,6 +93,7 @@ module _ (g : Geometry) (s : State) (t : SinceFormat) (a : Accounts g s t) (r : 
         reported-all = omega (arith, p, a .reported-all);
       }
   refused-accounts (asking p) n e q = a
+  refused-accounts (explaining p) n e q = a
   refused-accounts (listing first second slice) n e p = a
   refused-accounts checking n e p = a
 
@@ -115,6 +116,7 @@ module _ (g : Geometry) (s : State) (t : SinceFormat) (a : Accounts g s t) (r : 
         reported-all = rw next (omega (arith, p, reported-then os o, a .reported-all));
       }
   passed-accounts set (asking p) fit holds f e q = a
+  passed-accounts set (explaining p) fit holds f e q = a
   passed-accounts set (listing first second slice) fit holds f e p = a
   passed-accounts set checking fit holds f e p = a
 

@@ -2,7 +2,7 @@
 -- Assumes nothing.
 use Prim.Native.Nat.{ℕ, zero, suc, _≤_}
 use native.Mathlib.Omega.{arith}
-use mathlib.Core.Path.{_≡_, refl, ap, _∙_}
+use mathlib.Core.Path.{_≡_, refl, sym, ap, _∙_}
 use mathlib.Core.Logic.{_≢_}
 use mathlib.Core.Bool.{Bool, true, false}
 use mathlib.Core.List.{List, _++_}
@@ -17,12 +17,15 @@ use Rattle.geometry.specs.Bounds.{in-range}
 use Rattle.slot.specs.declared.Pair.{Pair}
 use Rattle.slot.specs.Pair.{Words}
 use Rattle.rules.specs.Merging.{State, formatted}
+use Rattle.rules.specs.Finding.{held}
 use Rattle.rules.specs.Listing.{list}
 use Rattle.rules.specs.Store.{writing, emptyStore}
 use Rattle.rules.specs.Sound.{sound, fault}
 use Rattle.geometry.specs.Directory.{geometryOf}
 use Rattle.rules.specs.Requests.{Request, step, pairIn}
+use Rattle.walk.specs.declared.Walked.the-variants.{Found}
 use Rattle.walk.specs.Walk.{walked}
+use Rattle.finding.specs.Asked.{decider}
 use Rattle.promises.specs.Written.{good-length, good-geometry, good-tree, good-sound, good-walks}
 use Rattle.promises.specs.Calls.{step-comes}
 use Rattle.promises.specs.Sets.{Holds, step-agrees}
@@ -30,9 +33,10 @@ use Rattle.promises.specs.Listed.{holds-lists}
 use Rattle.opening.specs.Reply.{firstFailing}
 use Rattle.opening.specs.Opening.{opening, both-short}
 use Rattle.call_ask.specs.Ask.{walkReply, ask-walked}
+use Rattle.call_why.specs.Why.{why-by-ask}
 use Rattle.call_check.specs.List.{list-tested}
 use Rattle.call_format.specs.Format.{formatTests, formatOf}
-use Rattle.conditions.specs.Calls.{Task, formatting, changing, asking, listing, checking, Call, TaskFits, comesTo, Made, make}
+use Rattle.conditions.specs.Calls.{Task, formatting, changing, asking, explaining, listing, checking, Call, TaskFits, comesTo, Made, make}
 use Rattle.conditions.specs.Lengths.{testsOf, refusal, passed, given, geometryThen}
 use Rattle.conditions.specs.Plain.{fillsSlice, answerTo, leaves, answered, setThen}
 use Rattle.conditions.specs.Seen.{seenOf}
@@ -118,13 +122,23 @@ module _ (g : Geometry) (s : State) (set : List Pair) (rest : List ℕ) (fit : I
     stored : geometryOf w ≡ g
     stored = good-geometry g s fit (holds .good)
 
+    walk-tells : (p : Pair) → walkReply (walked (geometryOf w) w p) ≡ walkReply (Found (held p (s .tree)) (decider p (s .tree)))
+    walk-tells p = ap (λ (h : Geometry). walkReply (walked h w p)) stored ∙ ap walkReply (good-walks g s fit (holds .good) p)
+
     ask-whole : (p : Pair) → Agreed (asking p)
     unfolding make comesTo seenOf answerTo writesBy given movesTo leaves pagesIn refusal testsOf firstFailing
     ask-whole p =
         let c = lending (asking p) in
-        let told = ap (λ (h : Geometry). walkReply (walked h w p)) stored ∙ ap walkReply (good-walks g s fit (holds .good) p) in
         passed-agrees g s set words c stands (rw (fits, firstFailing) refl)
-        (rw (whole, ← (ask-walked w p opened), told, holds .members p) refl) refl (rw (take-append-drop n words) stands)
+        (rw (whole, ← (ask-walked w p opened), walk-tells p, holds .members p) refl) refl (rw (take-append-drop n words) stands)
+        (ap length (take-append-drop n words))
+
+    why-whole : (p : Pair) → Agreed (explaining p)
+    unfolding make comesTo seenOf answerTo writesBy given movesTo leaves pagesIn refusal testsOf firstFailing
+    why-whole p =
+        let c = lending (explaining p) in
+        passed-agrees g s set words c stands (rw (fits, firstFailing) refl)
+        (rw (whole, ← (why-by-ask w p _ (sym (walk-tells p) ∙ ask-walked w p opened)), holds .members p) refl) refl (rw (take-append-drop n words) stands)
         (ap length (take-append-drop n words))
 
     check-whole : Agreed checking
@@ -221,6 +235,7 @@ module _ (g : Geometry) (s : State) (set : List Pair) (rest : List ℕ) (fit : I
       by true p false q = change-unlent (eqb-true n (storeWords g) p) r work (eqb-false (length work) (workWords g) q)
       by true p true q = change-whole (eqb-true n (storeWords g) p) r work f (eqb-true (length work) (workWords g) q)
   task-agrees (asking p) f = either (asking p) tt (λ e. ask-whole e p)
+  task-agrees (explaining p) f = either (explaining p) tt (λ e. why-whole e p)
   task-agrees (listing first second slice) f = either (listing first second slice) tt (λ e. list-whole e first second slice)
   task-agrees checking f = either checking tt check-whole
 

@@ -8,6 +8,7 @@ use Rattle.slot.specs.Pair.{Words}
 use Rattle.rules.specs.Requests.{Request, putting, dropping, pairIn}
 use Rattle.opening.specs.Reply.{Reply}
 use Rattle.call_ask.specs.Ask.{askOf}
+use Rattle.call_why.specs.Why.{whyOf}
 use Rattle.call_check.specs.Check.{checkOf}
 use Rattle.call_check.specs.List.{listOf}
 use Rattle.call_format.specs.Format.{formatOf}
@@ -18,6 +19,7 @@ pub data Task : Type 0 where
   formatting : Geometry → Task
   changing : Request → List ℕ → Task
   asking : Pair → Task
+  explaining : Pair → Task
   listing : Pair → Pair → List ℕ → Task
   checking : Task
 
@@ -31,6 +33,7 @@ unfoldable pub TaskFits : Task → Type 0
 TaskFits (formatting g) = Unit {0}
 TaskFits (changing r work) = Words (pairIn r)
 TaskFits (asking p) = Unit {0}
+TaskFits (explaining p) = Unit {0}
 TaskFits (listing first second slice) = Unit {0}
 TaskFits checking = Unit {0}
 
@@ -52,6 +55,7 @@ unfoldable pub comesTo : Task → List ℕ → Comes
 comesTo (formatting g) w = let f = formatOf w g in record { reply = f .reply; store = f .words; beside = [] }
 comesTo (changing r work) w = let k = changeOn r w work in record { reply = k .reply; store = k .store; beside = k .work }
 comesTo (asking p) w = record { reply = askOf w p; store = w; beside = [] }
+comesTo (explaining p) w = record { reply = whyOf w p; store = w; beside = [] }
 comesTo (listing first second slice) w = let f = listOf w first second slice in record { reply = f .reply; store = w; beside = f .words }
 comesTo checking w = record { reply = checkOf w; store = w; beside = [] }
 

@@ -12,11 +12,16 @@ use Rattle.geometry.specs.Geometry.{InRange, most}
 use Rattle.geometry.specs.Places.{storeWords, workWords}
 use Rattle.slot.specs.declared.Pair.{Pair}
 use Rattle.slot.specs.Pair.{Words}
+use Rattle.rules.specs.Level.{slotsOf}
+use Rattle.rules.specs.Finding.{ask}
 use Rattle.rules.specs.Merging.{State, formatted}
 use Rattle.rules.specs.Store.{writing}
 use Rattle.rules.specs.Requests.{Request, step, pairIn}
 use Rattle.rules.specs.Allowance.{allowed}
+use Rattle.walk.specs.Trail.{trail, pagesBelow}
 use Rattle.call_check.specs.Check.{checkOf}
+use Rattle.call_why.specs.Why.{whyLines}
+use Rattle.trails.specs.Topmost.{Topmost, topmost, trail-reads}
 use Rattle.conditions.specs.Calls.{Call, CallsFit, changeOn, Made, make, history, wordsAfter}
 use Rattle.conditions.specs.Lengths.{geometryAfter}
 use Rattle.conditions.specs.Plain.{answers, setAfter}
@@ -24,6 +29,7 @@ use Rattle.conditions.specs.Seen.{seen}
 use Rattle.conditions.specs.Ruled.{stateAfter, pagesWritten}
 use Rattle.conditions.specs.Reports.{pagesReported, noneYet, sinceFormat}
 use Rattle.conditions.specs.Edited.{keptBy, change-kept}
+use Rattle.conditions.specs.Opened.{why-lines-written}
 use Rattle.conditions.specs.Stands.{stands-first, stands-sound, stands-most}
 use Rattle.conditions.specs.Sequences.{AllAgree, calls-agree}
 use Rattle.conditions.specs.Accounts.{none-accounts, calls-account, accounts-allowed}
@@ -86,6 +92,18 @@ module _ (g : Geometry) (fit : InRange g) (before : List ℕ) (room : storeWords
       changeOn r store work ≡ keptBy inForce (step inForce r state) work
   change-by-the-rules r work pair exact =
       rw store-is-the-writing (change-kept inForce (agree .after .in-range) state (agree .after .holds .good) work exact r pair)
+
+  -- A why on it ends at the topmost entry of its pair in that tree, which is the entry that the walk of the rules meets first, and reads the pages that
+  -- that walk reads.
+  pub why-ends-at-the-topmost : (p : Pair) → Topmost inForce state p
+  why-ends-at-the-topmost p = topmost inForce state p (agree .after .in-range) (agree .after .holds .good)
+
+  pub why-lines-by-the-rules : (p : Pair) → whyLines store p ≡ trail inForce (writing inForce state) p
+  why-lines-by-the-rules p = rw store-is-the-writing (why-lines-written inForce (agree .after .in-range) state (agree .after .holds .good) p)
+
+  pub why-reads-by-the-rules : (p : Pair) → pagesBelow (whyLines store p) ≡ (ask p (slotsOf (state .tree))) .read
+  why-reads-by-the-rules p =
+      rw (why-lines-by-the-rules p) (trail-reads inForce state p (agree .after .in-range) (agree .after .holds .good))
 
   -- Condition 3. The sum of the pages reported is at most what is allowed to the number of puts and drops accepted, both counted since the last format.
   pub pages-allowed : (sinceFormat noneYet made) .pages ≤ allowed inForce ((sinceFormat noneYet made) .accepted)

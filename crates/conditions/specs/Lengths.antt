@@ -7,13 +7,14 @@ use Rattle.geometry.specs.declared.Geometry.{Geometry}
 use Rattle.geometry.specs.Geometry.{inRange}
 use Rattle.geometry.specs.Places.{storeWords, workWords}
 use Rattle.opening.specs.Reply.{Test, test, firstFailing}
-use Rattle.conditions.specs.Calls.{Task, formatting, changing, asking, listing, checking, Call}
+use Rattle.conditions.specs.Calls.{Task, formatting, changing, asking, explaining, listing, checking, Call}
 
 -- 1 for numbers outside their ranges; 5 for a store or a work area that is not lent in its exact length.
 unfoldable pub testsOf : Geometry → ℕ → Task → List Test
 testsOf g lent (formatting h) = test (inRange h) 1 ∷ test (eqb lent (storeWords h)) 5 ∷ []
 testsOf g lent (changing r work) = test (eqb lent (storeWords g)) 5 ∷ test (eqb (length work) (workWords g)) 5 ∷ []
 testsOf g lent (asking p) = test (eqb lent (storeWords g)) 5 ∷ []
+testsOf g lent (explaining p) = test (eqb lent (storeWords g)) 5 ∷ []
 testsOf g lent (listing first second slice) = test (eqb lent (storeWords g)) 5 ∷ []
 testsOf g lent checking = test (eqb lent (storeWords g)) 5 ∷ []
 
@@ -31,6 +32,7 @@ unfoldable pub given : Geometry → Task → Geometry
 given g (formatting h) = h
 given g (changing r work) = g
 given g (asking p) = g
+given g (explaining p) = g
 given g (listing first second slice) = g
 given g checking = g
 

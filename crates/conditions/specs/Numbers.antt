@@ -14,7 +14,7 @@ use Rattle.rules.specs.Requests.{Request, putting, dropping}
 use Rattle.promises.specs.Plain.{has}
 use Rattle.promises.specs.Answers.{answer}
 use Rattle.opening.specs.Reply.{first-among}
-use Rattle.conditions.specs.Calls.{Task, formatting, changing, asking, listing, checking, Call, Made}
+use Rattle.conditions.specs.Calls.{Task, formatting, changing, asking, explaining, listing, checking, Call, Made}
 use Rattle.conditions.specs.Lengths.{testsOf, refusal, passed, geometryThen}
 use Rattle.conditions.specs.Plain.{Answer, fillsSlice, answerTo, refusing, answered, setThen, answers, refusing-number}
 use Rattle.conditions.specs.Seen.{seenOf, seen, seen-number}
@@ -31,6 +31,7 @@ refusal-few g n task = first-among noFault (testsOf g n task) refl (by task)
     by (formatting h) = refl
     by (changing r work) = refl
     by (asking p) = refl
+    by (explaining p) = refl
     by (listing first second slice) = refl
     by checking = refl
 
@@ -53,6 +54,7 @@ unfolding answerTo fillsSlice noFault
 task-few m (formatting g) set = refl
 task-few m (changing r work) set = answer-few m r set
 task-few m (asking p) set = refl
+task-few m (explaining p) set = refl
 task-few m (listing first second slice) set = refl
 task-few m checking set = refl
 

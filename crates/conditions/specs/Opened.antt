@@ -1,4 +1,4 @@
--- The opening tests on the first words of a store that is the writing of a good state, whatever stands behind it. Assumes nothing.
+-- The opening tests on the first words of a store that is the writing of a good state, whatever stands behind it, and the lines of a why there. Assumes nothing.
 use Prim.Native.Nat.{ℕ, _≤_, _<_}
 use native.Mathlib.Omega.{arith}
 use mathlib.Core.Path.{_≡_, refl, sym, _∙_}
@@ -14,12 +14,18 @@ use Rattle.geometry.specs.Geometry.{InRange}
 use Rattle.geometry.specs.Bounds.{range-tested}
 use Rattle.geometry.specs.Places.{storeWords, planOf, directoryWords}
 use Rattle.geometry.specs.Lent.{lent}
+use Rattle.slot.specs.declared.Pair.{Pair}
+use Rattle.rules.specs.Finding.{held}
 use Rattle.rules.specs.Merging.{State}
 use Rattle.rules.specs.Store.{writing}
 use Rattle.geometry.specs.Directory.{geometryOf}
 use Rattle.rules.specs.Good.{Good}
-use Rattle.promises.specs.Written.{good-length, good-geometry}
+use Rattle.walk.specs.Trail.{trail}
+use Rattle.finding.specs.Asked.{decider}
+use Rattle.promises.specs.Written.{good-length, good-geometry, good-walks}
 use Rattle.opening.specs.Opening.{opening, too-short, wrong-length, all-pass}
+use Rattle.call_why.specs.Why.{whyLines}
+use Rattle.trails.specs.Decides.{found-lines}
 
 module _ (g : Geometry) (fit : InRange g) (s : State) (good : Good g s) where
   abbrev w : List ℕ
@@ -33,6 +39,12 @@ module _ (g : Geometry) (fit : InRange g) (s : State) (good : Good g s) where
   opens =
       let stored = good-geometry g s fit good in
       all-pass w (le-leb directoryWords (length w) nine) (rw stored (range-tested g fit)) (rw stored (eq-eqb (length w) (storeWords g) (good-length g s fit good)))
+
+  -- The lines of a why on it are the trail of its walk.
+  pub why-lines-written : (p : Pair) → whyLines w p ≡ trail g w p
+  unfolding whyLines
+  why-lines-written p =
+      rw (opens, good-geometry g s fit good) (found-lines g w p (held p (s .tree)) (decider p (s .tree)) (good-walks g s fit good p))
 
   -- With more words behind it.
   module _ (rest : List ℕ) where

@@ -14,7 +14,7 @@ use Rattle.rules.specs.Listing.{pairWords}
 use Rattle.promises.specs.Plain.{has}
 use Rattle.promises.specs.Answers.{answer}
 use Rattle.promises.specs.Listed.{between}
-use Rattle.conditions.specs.Calls.{Task, formatting, changing, asking, listing, checking, Call}
+use Rattle.conditions.specs.Calls.{Task, formatting, changing, asking, explaining, listing, checking, Call}
 use Rattle.conditions.specs.Lengths.{refusal, passed, geometryThen}
 
 -- What a set can answer: the reply's number, the values that it decides, and the words of list's slice.
@@ -41,6 +41,7 @@ answerTo limit (changing r work) set =
     let a = answer limit r set in
     record { number = a .reply; values = cond (eqb (a .reply) 0) (length (a .after)) 0 ∷ []; slice = [] }
 answerTo limit (asking p) set = record { number = 0; values = cond (has p set) 1 0 ∷ []; slice = [] }
+answerTo limit (explaining p) set = record { number = 0; values = cond (has p set) 1 0 ∷ []; slice = [] }
 answerTo limit (listing first second slice) set = fillsSlice (passing (between first second) set) slice
 answerTo limit checking set = record { number = 0; values = 0 ∷ []; slice = [] }
 
@@ -49,6 +50,7 @@ unfoldable pub leaves : ℕ → Task → List Pair → List Pair
 leaves limit (formatting g) set = []
 leaves limit (changing r work) set = (answer limit r set) .after
 leaves limit (asking p) set = set
+leaves limit (explaining p) set = set
 leaves limit (listing first second slice) set = set
 leaves limit checking set = set
 
@@ -57,6 +59,7 @@ unfoldable pub refusing : ℕ → Task → Answer
 refusing n (formatting g) = record { number = n; values = 0 ∷ []; slice = [] }
 refusing n (changing r work) = record { number = n; values = 0 ∷ []; slice = [] }
 refusing n (asking p) = record { number = n; values = 0 ∷ []; slice = [] }
+refusing n (explaining p) = record { number = n; values = 0 ∷ []; slice = [] }
 refusing n (listing first second slice) = record { number = n; values = 0 ∷ 0 ∷ []; slice = slice }
 refusing n checking = record { number = n; values = 0 ∷ []; slice = [] }
 
@@ -81,5 +84,6 @@ unfolding refusing
 refusing-number n (formatting g) = refl
 refusing-number n (changing q work) = refl
 refusing-number n (asking p) = refl
+refusing-number n (explaining p) = refl
 refusing-number n (listing first second slice) = refl
 refusing-number n checking = refl

@@ -4,13 +4,14 @@ use mathlib.Core.List.{List, [], _∷_}
 use Rattle.geometry.specs.declared.Geometry.{Geometry}
 use Rattle.rules.specs.Merging.{PageWrite, State, formatted}
 use Rattle.rules.specs.Requests.{step}
-use Rattle.conditions.specs.Calls.{Task, formatting, changing, asking, listing, checking, Call}
+use Rattle.conditions.specs.Calls.{Task, formatting, changing, asking, explaining, listing, checking, Call}
 use Rattle.conditions.specs.Lengths.{refusal, passed, geometryThen}
 
 unfoldable pub movesTo : Geometry → Task → State → State
 movesTo g (formatting h) s = formatted h
 movesTo g (changing r work) s = (step g r s) .after
 movesTo g (asking p) s = s
+movesTo g (explaining p) s = s
 movesTo g (listing first second slice) s = s
 movesTo g checking s = s
 
@@ -18,6 +19,7 @@ unfoldable pub writesBy : Geometry → Task → State → List PageWrite
 writesBy g (formatting h) s = []
 writesBy g (changing r work) s = (step g r s) .written
 writesBy g (asking p) s = []
+writesBy g (explaining p) s = []
 writesBy g (listing first second slice) s = []
 writesBy g checking s = []
 

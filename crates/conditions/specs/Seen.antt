@@ -4,7 +4,7 @@ use mathlib.Core.Path.{_≡_, refl}
 use mathlib.Core.List.{List, [], map}
 use lib.ListN.{take}
 use Rattle.opening.specs.Reply.{Reply}
-use Rattle.conditions.specs.Calls.{Task, formatting, changing, asking, listing, checking, Made}
+use Rattle.conditions.specs.Calls.{Task, formatting, changing, asking, explaining, listing, checking, Made}
 use Rattle.conditions.specs.Plain.{Answer}
 
 -- All of format, list and check; of put, drop and ask the number and the first value, for the others tell of levels and pages.
@@ -12,6 +12,7 @@ unfoldable pub seenOf : Task → Reply → List ℕ → Answer
 seenOf (formatting g) r beside = record { number = r .number; values = r .values; slice = [] }
 seenOf (changing q work) r beside = record { number = r .number; values = take 1 (r .values); slice = [] }
 seenOf (asking p) r beside = record { number = r .number; values = take 1 (r .values); slice = [] }
+seenOf (explaining p) r beside = record { number = r .number; values = take 1 (r .values); slice = [] }
 seenOf (listing first second slice) r beside = record { number = r .number; values = r .values; slice = beside }
 seenOf checking r beside = record { number = r .number; values = r .values; slice = [] }
 
@@ -24,5 +25,6 @@ unfolding seenOf
 seen-number (formatting g) r beside = refl
 seen-number (changing q work) r beside = refl
 seen-number (asking p) r beside = refl
+seen-number (explaining p) r beside = refl
 seen-number (listing first second slice) r beside = refl
 seen-number checking r beside = refl

@@ -8,9 +8,8 @@ use Rattle.laws.specs.Lists.{passing, passing-yes, passing-small}
 use Rattle.slot.specs.declared.Pair.{Pair}
 use Rattle.slot.specs.declared.Slot.{Slot}
 use Rattle.slot.specs.Pair.{before}
-use Rattle.rules.specs.Sound.{follows, inOrder}
+use Rattle.rules.specs.Sound.{inOrder}
 use Rattle.page.specs.Form.{none-at-most}
-use Rattle.entries.specs.Ascending.{chain-first}
 
 unfoldable pub reach : Pair → List Slot → ℕ
 reach p ss = length (passing (λ s. not (before p (s .pair))) ss)
@@ -32,9 +31,3 @@ module _ (p : Pair) where
   pub reach-past : (s : Slot) (ss : List Slot) → inOrder (s ∷ ss) ≡ true → before p (s .pair) ≡ true → reach p (s ∷ ss) ≡ 0
   unfolding reach
   reach-past s ss e h = ap length (none-at-most p s ss e h)
-
--- What follows a slot in order is in order.
-pub order-rest : (s : Slot) (ss : List Slot) → inOrder (s ∷ ss) ≡ true → inOrder ss ≡ true
-unfolding inOrder
-order-rest s [] e = refl
-order-rest s (b ∷ ss) e = chain-first (follows s b) (inOrder (b ∷ ss)) e .1

@@ -15,10 +15,11 @@ use Rattle.rules.specs.Level.{index, place, weave}
 use Rattle.rules.specs.Finding.{Met, absent, met, find}
 use Rattle.rules.specs.Merging.{toggle}
 use Rattle.rules.specs.Sound.{inOrder, ascending}
+use Rattle.page.specs.Form.{order-rest}
 use Rattle.entries.specs.Ascending.{From, from-ascending, from-lower, find-here, find-above}
 use Rattle.good.specs.Comparing.{Compared, earlier, equal, later, compared}
 use Rattle.good.specs.Toggle.{toggle-cancels, toggle-after, toggle-front, find-later}
-use Rattle.edited.specs.Reach.{reach, reach-none, reach-on, reach-past, order-rest}
+use Rattle.edited.specs.Reach.{reach, reach-none, reach-on, reach-past}
 
 -- An entry stands before the first fence that is above it, and behind any other.
 module _ (e : Entry) (rest : List Slot → List Slot) (f : Slot) (fs : List Slot) where

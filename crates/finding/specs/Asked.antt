@@ -1,8 +1,8 @@
 -- On the slots of a good tree the walk's answer is whether the topmost entry of the pair is normal, and its deciding level is that
 -- entry's. Assumes nothing.
-use Prim.Native.Nat.{ℕ, suc, _≤_}
+use Prim.Native.Nat.{ℕ, zero, suc, _+_, _≤_, _<_}
 use native.Mathlib.Omega.{arith}
-use mathlib.Core.Path.{_≡_, refl, sym, _∙_}
+use mathlib.Core.Path.{_≡_, refl, sym, ap, _∙_}
 use mathlib.Core.Bool.{Bool, true, false}
 use mathlib.Core.List.{List, [], _∷_}
 use lib.ListN.{length}
@@ -79,16 +79,16 @@ module _ (p : Pair) where
     tells-page fs t f e = e ∙ rw (f, laid-row fs t) (led fs t .follows)
 
   -- The walk on slots.
-  walk-met : (i : ℕ) (run : List Slot) (ss : List (List Slot)) (b : Bool) → tell p run ≡ decided b → walk p i run ss ≡ record { isHeld = b; decider = i; read = [] }
+  pub walk-met : (i : ℕ) (run : List Slot) (ss : List (List Slot)) (b : Bool) → tell p run ≡ decided b → walk p i run ss ≡ record { isHeld = b; decider = i; read = [] }
   unfolding walk
   walk-met i run [] b e = rw (e, walk)
   walk-met i run (slots ∷ ss) b e = rw (e, walk)
 
-  walk-ends : (i : ℕ) (run : List Slot) → tell p run ≡ nothing → walk p i run [] ≡ record { isHeld = false; decider = suc i; read = [] }
+  pub walk-ends : (i : ℕ) (run : List Slot) → tell p run ≡ nothing → walk p i run [] ≡ record { isHeld = false; decider = suc i; read = [] }
   unfolding walk
   walk-ends i run e = rw (e, walk)
 
-  walk-goes-on : (i : ℕ) (run slots : List Slot) (ss : List (List Slot)) (q : ℕ) → tell p run ≡ follow q →
+  pub walk-goes-on : (i : ℕ) (run slots : List Slot) (ss : List (List Slot)) (q : ℕ) → tell p run ≡ follow q →
       walk p i run (slots ∷ ss) ≡ (let rest = walk p (suc i) (pageOf slots q) ss in record { isHeld = rest .isHeld; decider = rest .decider; read = q ∷ rest .read })
   unfolding walk
   walk-goes-on i run slots ss q e = rw (e, walk)
@@ -160,3 +160,34 @@ module _ (p : Pair) where
   unfolding decider
   below-decides [] k f = absurd (omega arith)
   below-decides (es ∷ t) k f = rw (deciding-absent p 0 es t f) (deciding-from 1 t)
+
+  -- No level above the deciding one has an entry of the pair, and the entry of that one tells whether the pair is held.
+  deciding-above : (i j : ℕ) (t : Tree) → i + j < deciding p i t → find p (level j t) ≡ absent
+  unfolding find
+  deciding-above i j [] h = refl
+  deciding-above i j (es ∷ t) h = by-level j h (find p es) refl (λ k. deciding-above (suc i) k t)
+    where
+      by-level : (j : ℕ) → i + j < deciding p i (es ∷ t) → (m : Met) → find p es ≡ m → ((k : ℕ) → suc i + k < deciding p (suc i) t → find p (level k t) ≡ absent) →
+          find p (level j (es ∷ t)) ≡ absent
+      by-level j h (met b) f rest = absurd (omega (arith, h, deciding-met p i es t b f))
+      by-level zero h absent f rest = f
+      by-level (suc k) h absent f rest = rest k (omega (arith, h, deciding-absent p i es t f))
+
+  deciding-here : (i j : ℕ) (t : Tree) → deciding p i t ≡ i + j → j < length t → find p (level j t) ≡ met (held p t)
+  deciding-here i j [] e h = absurd (omega arith)
+  deciding-here i j (es ∷ t) e h = by-level j e h (find p es) refl (λ k. deciding-here (suc i) k t)
+    where
+      by-level : (j : ℕ) → deciding p i (es ∷ t) ≡ i + j → j < length (es ∷ t) → (m : Met) → find p es ≡ m →
+          ((k : ℕ) → deciding p (suc i) t ≡ suc i + k → k < length t → find p (level k t) ≡ met (held p t)) → find p (level j (es ∷ t)) ≡ met (held p (es ∷ t))
+      by-level zero e h (met b) f rest = f ∙ ap met (sym (held-met p es t b f))
+      by-level (suc k) e h (met b) f rest = absurd (omega (arith, e, deciding-met p i es t b f))
+      by-level zero e h absent f rest = absurd (omega (arith, e, deciding-absent p i es t f, deciding-from (suc i) t))
+      by-level (suc k) e h absent f rest = rest k (omega (arith, e, deciding-absent p i es t f)) (omega arith) ∙ ap met (sym (held-absent p es t f))
+
+  pub absent-above-decider : (t : Tree) (i : ℕ) → i < decider p t → find p (level i t) ≡ absent
+  unfolding decider
+  absent-above-decider t i h = deciding-above 0 i t (omega arith)
+
+  pub met-at-decider : (t : Tree) → decider p t < length t → find p (level (decider p t) t) ≡ met (held p t)
+  unfolding decider
+  met-at-decider t h = deciding-here 0 (decider p t) t (omega arith) h

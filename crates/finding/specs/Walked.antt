@@ -1,4 +1,4 @@
--- On the writing of a good state the walk of ask finds no fault and what the tree holds. Assumes nothing.
+-- On the writing of a good state the walk of ask finds no fault and what the tree holds, and reads the pages of the walk on slots. Assumes nothing.
 use Prim.Native.Nat.{ℕ, suc, _+_, _≤_, _<_}
 use native.Mathlib.Nat.{add-zero}
 use native.Mathlib.Numerals.{add-one}
@@ -18,7 +18,7 @@ use Rattle.slot.specs.declared.Pair.{Pair}
 use Rattle.slot.specs.declared.Slot.{Slot}
 use Rattle.rules.specs.Tree.{Level, Tree, level}
 use Rattle.rules.specs.Level.{pagesFor, pageOf, firstOf, laid, slotsOf}
-use Rattle.rules.specs.Finding.{Met, absent, met, find, held, Told, tell}
+use Rattle.rules.specs.Finding.{Met, absent, met, find, held, Told, tell, walk, ask}
 use Rattle.rules.specs.Merging.{State}
 use Rattle.rules.specs.Sound.{headSlots, ascending, pageRight, firstRight}
 use Rattle.geometry.specs.Directory.{pagesOf}
@@ -27,11 +27,12 @@ use Rattle.rules.specs.Reading.{Reads}
 use Rattle.walk.specs.declared.Walked.the-variants.{Found}
 use Rattle.walk.specs.Step.{stepOf, headStep, pageStep}
 use Rattle.walk.specs.Walk.{walkOn, walked}
+use Rattle.walk.specs.Trail.{pageLine, linesOn, trail, linePages, pagesBelow}
 use Rattle.entries.specs.Ascending.{held-met, held-absent}
 use Rattle.finding.specs.Rows.{rowOn, laid-row, lower-laid}
 use Rattle.finding.specs.RowTold.{Leads}
 use Rattle.finding.specs.PageTold.{page-first}
-use Rattle.finding.specs.Asked.{deciding, decider, deciding-met, deciding-absent, Tells, led, page-below, head-tells, page-led, tells-met, tells-nothing, tells-page}
+use Rattle.finding.specs.Asked.{deciding, decider, deciding-met, deciding-absent, Tells, led, page-below, head-tells, page-led, tells-met, tells-nothing, tells-page, walk-met, walk-ends, walk-goes-on}
 use Rattle.finding.specs.Formed.{directory-right, head-right, head-read, page-formed, row-of, pages-below}
 
 module _ (g : Geometry) (s : State) (w : List ℕ) (fit : InRange g) (good : Good g s) (fits : Fits g (slotsOf (s .tree)))
@@ -63,15 +64,24 @@ module _ (g : Geometry) (s : State) (w : List ℕ) (fit : InRange g) (good : Goo
     unfolding pageStep pageRight
     step-led = rw (page-formed g s w fit good fits reads i (to .page) h b within-level, reads .page-slots i (to .page) h b within-row, is, first-right)
 
-  -- From a run of level i on, with the levels of t below it.
+  -- From a run of level i on, with the levels of t below it: what is found, and the pages read.
+  abbrev WalksOn : Tree → ℕ → List Slot → Level → ℕ → Type 0
+  WalksOn t i run es n =
+      (walkOn g w p n i (stepOf (tell p run)) ≡ Found (held p (es ∷ t)) (deciding p i (es ∷ t))) ×
+      (linePages (linesOn g w p n i (stepOf (tell p run))) ≡ (walk p i run (laid t)) .read)
+
   walk-words : (t : Tree) (i : ℕ) (run : List Slot) (es : Level) → suc i + length t ≡ g .levels → drop (suc i) slots ≡ laid t → all ascending t ≡ true →
-      Tells p run es t → walkOn g w p (length t) i (stepOf (tell p run)) ≡ Found (held p (es ∷ t)) (deciding p i (es ∷ t))
-  unfolding walkOn held deciding
+      Tells p run es t → WalksOn t i run es (length t)
+  unfolding walkOn linesOn pageLine linePages held deciding laid
   walk-words [] i run es n d a e = by-entry (find p es) refl
     where
-      by-entry : (m : Met) → find p es ≡ m → walkOn g w p 0 i (stepOf (tell p run)) ≡ Found (held p (es ∷ [])) (deciding p i (es ∷ []))
-      by-entry (met normal) f = rw (tells-met p run es [] normal f e, held-met p es [] normal f, deciding-met p i es [] normal f)
-      by-entry absent f = rw (tells-nothing p run es f e, held-absent p es [] f, deciding-absent p i es [] f) (ap (Found false) (omega (arith, n)))
+      by-entry : (m : Met) → find p es ≡ m → WalksOn [] i run es 0
+      by-entry (met normal) f =
+          let told = tells-met p run es [] normal f e in
+          (rw (told, held-met p es [] normal f, deciding-met p i es [] normal f), rw (walk-met p i run [] normal told))
+      by-entry absent f =
+          let told = tells-nothing p run es f e in
+          (rw (told, held-absent p es [] f, deciding-absent p i es [] f) (ap (Found false) (omega (arith, n))), rw (walk-ends p i run told))
   walk-words (fs ∷ t) i run es n d a e =
       by-entry (find p es) refl
       (walk-words t (suc i) (pageOf row (page-below p fs t)) fs (omega (arith, n)) rest-is lower (page-led p fs t (all-first ascending fs t a) lower))
@@ -94,11 +104,17 @@ module _ (g : Geometry) (s : State) (w : List ℕ) (fit : InRange g) (good : Goo
       goes-on : pageStep g w p (suc i) (page-below p fs t) ≡ stepOf (tell p (pageOf row (page-below p fs t)))
       goes-on = step-led (suc i) (omega arith) (omega (arith, n)) row row-is _ (led p fs t)
 
-      by-entry : (m : Met) → find p es ≡ m →
-          walkOn g w p (length t) (suc i) (stepOf (tell p (pageOf row (page-below p fs t)))) ≡ Found (held p (fs ∷ t)) (deciding p (suc i) (fs ∷ t)) →
-          walkOn g w p (suc (length t)) i (stepOf (tell p run)) ≡ Found (held p (es ∷ fs ∷ t)) (deciding p i (es ∷ fs ∷ t))
-      by-entry (met normal) f ih = rw (tells-met p run es (fs ∷ t) normal f e, held-met p es (fs ∷ t) normal f, deciding-met p i es (fs ∷ t) normal f)
-      by-entry absent f ih = rw (tells-page p run es fs t f e, walkOn, goes-on, held-absent p es (fs ∷ t) f, deciding-absent p i es (fs ∷ t) f) ih
+      by-entry : (m : Met) → find p es ≡ m → WalksOn t (suc i) (pageOf row (page-below p fs t)) fs (length t) → WalksOn (fs ∷ t) i run es (suc (length t))
+      by-entry (met normal) f ih =
+          let told = tells-met p run es (fs ∷ t) normal f e in (
+            rw (told, held-met p es (fs ∷ t) normal f, deciding-met p i es (fs ∷ t) normal f),
+            rw (told, walk-met p i run (laid (fs ∷ t)) normal told),
+          )
+      by-entry absent f ih =
+          let told = tells-page p run es fs t f e in (
+            rw (told, walkOn, goes-on, held-absent p es (fs ∷ t) f, deciding-absent p i es (fs ∷ t) f) (ih .0),
+            rw (laid-row fs t, walk-goes-on p i run row (laid t) (page-below p fs t) told, told, linesOn, goes-on) (ap (λ ps. page-below p fs t ∷ ps) (ih .1)),
+          )
 
   -- From the head on.
   module _ (some : 1 ≤ length (s .tree)) where
@@ -108,18 +124,30 @@ module _ (g : Geometry) (s : State) (w : List ℕ) (fit : InRange g) (good : Goo
     abbrev below : Tree
     below = drop 1 (s .tree)
 
-    walk-tree : walkOn g w p (length below) 0 (stepOf (tell p (headSlots g w))) ≡ Found (held p (top ∷ below)) (deciding p 0 (top ∷ below))
+    walk-tree : WalksOn below 0 (headSlots g w) top (length below)
     walk-tree =
         walk-words below 0 (headSlots g w) top (omega (arith, some, good .levels, length-drop 1 (s .tree))) (lower-laid (s .tree))
         (all-drop ascending 1 (s .tree) (good .ascends))
         (rw (head-read g s w fit good fits reads, lower-laid (s .tree))
         (head-tells p top below (all-at ascending (s .tree) 0 [] (good .ascends) some) (all-drop ascending 1 (s .tree) (good .ascends))))
 
+  some-level : 1 ≤ length (s .tree)
+  some-level = omega (arith, good .levels, fit .levels-least)
+
+  depth : bottom g ≡ length (drop 1 (s .tree))
+  depth = omega (arith, good .levels, length-drop 1 (s .tree))
+
   pub walked-finds : walked g w p ≡ Found (held p (s .tree)) (decider p (s .tree))
   unfolding walked headStep decider
   walked-finds =
-      let some : 1 ≤ length (s .tree) = omega (arith, good .levels, fit .levels-least) in
-      let depth : bottom g ≡ length (drop 1 (s .tree)) = omega (arith, good .levels, length-drop 1 (s .tree)) in
-      let whole : s .tree ≡ level 0 (s .tree) ∷ drop 1 (s .tree) = drop-cons (s .tree) 0 [] some in
+      let whole : s .tree ≡ level 0 (s .tree) ∷ drop 1 (s .tree) = drop-cons (s .tree) 0 [] some-level in
       rw (directory-right g s w fit good fits reads, head-right g s w fit good fits reads, depth)
-      (walk-tree some ∙ ap (λ (t : Tree). Found (held p t) (deciding p 0 t)) (sym whole))
+      (walk-tree some-level .0 ∙ ap (λ (t : Tree). Found (held p t) (deciding p 0 t)) (sym whole))
+
+  -- The pages that its trail reads below the head are those of the walk on slots.
+  pub walked-reads : pagesBelow (trail g w p) ≡ (ask p (slotsOf (s .tree))) .read
+  unfolding pagesBelow trail headStep ask
+  walked-reads =
+      let whole : slots ≡ headSlots g w ∷ laid (drop 1 (s .tree)) =
+      drop-cons slots 0 [] (omega (arith, fits .levels, fit .levels-least)) ∙ rw (reads .head-slots, lower-laid (s .tree)) in
+      rw (head-right g s w fit good fits reads, depth) (walk-tree some-level .1 ∙ sym (rw whole))

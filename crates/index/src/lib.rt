@@ -5,6 +5,7 @@
 //   call_format  makes the store of the empty set
 //   call_put     puts a pair into the store, or drops one from it
 //   call_ask     asks whether the store holds a pair
+//   call_why     asks the same, and tells where the walk went
 //   call_check   tests a whole store, and lists the pairs that it holds
 pub use call_ask::AskReply;
 pub use call_ask::Asked;
@@ -27,3 +28,4 @@ pub use call_put::Edited;
 pub use call_put::drop;
 pub use call_put::edit_reply;
 pub use call_put::put;
+pub use call_why::why;

@@ -6,6 +6,7 @@ use Rattle.geometry.specs.declared.Geometry.{Geometry}
 use Rattle.slot.specs.declared.Pair.{Pair}
 use Rattle.opening.specs.Reply.{Reply, replied, Filled, filled}
 use Rattle.call_ask.specs.Ask.{askOf}
+use Rattle.call_why.specs.Why.{whyOf}
 use Rattle.call_check.specs.Check.{checkOf}
 use Rattle.call_check.specs.List.{listOf}
 use Rattle.call_format.specs.Format.{formatOf}
@@ -45,6 +46,9 @@ module _ (r s : ℕ) (a b : List ℕ) where
 
   pub ask-has-one-result : (w : List ℕ) (pair : Pair) → replied r a ≡ askOf w pair → replied s b ≡ askOf w pair → (r ≡ s) × (a ≡ b)
   ask-has-one-result w pair = told-reply (askOf w pair)
+
+  pub why-has-one-result : (w : List ℕ) (pair : Pair) → replied r a ≡ whyOf w pair → replied s b ≡ whyOf w pair → (r ≡ s) × (a ≡ b)
+  why-has-one-result w pair = told-reply (whyOf w pair)
 
   pub list-has-one-result : (w : List ℕ) (first second : Pair) (slice v u : List ℕ) →
       filled r a v ≡ listOf w first second slice → filled s b u ≡ listOf w first second slice → (r ≡ s) × (a ≡ b) × (v ≡ u)

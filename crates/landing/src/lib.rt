@@ -9,6 +9,7 @@ ghost use Rattle.call_check.specs.Check.{checkOf};
 ghost use Rattle.call_check.specs.List.{listOf};
 ghost use Rattle.call_format.specs.Format.{formatOf};
 ghost use Rattle.call_put.specs.Edit.{kept, putOf, dropOf};
+ghost use Rattle.call_why.specs.Why.{whyOf};
 ghost use Rattle.landing.specs.Numbers.{pairOf, geometryFrom, wordsFor};
 use geometry::Geometry;
 use index::ask_reply;
@@ -70,6 +71,15 @@ pub extern "C" fn landing_ask(store: &[u32], badge: u32, floor: u32, out: &mut [
     let values = asked.values;
     *out = values;
     asked.number
+}
+
+// Why may it, or why not?
+#[no_mangle]
+pub extern "C" fn landing_why(store: &[u32], badge: u32, floor: u32, out: &mut [u32; 22]) -> u32
+    ensures { λ r. ⌜ replied r (now (out .exit)) ≡ whyOf (now (store .entry)) (pairOf badge floor) ⌝ }
+{
+    let told = ask_reply(index::why(store, pair_of(badge, floor), out));
+    told.number
 }
 
 // Which pairs from a first to a second does this store hold?

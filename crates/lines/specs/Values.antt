@@ -1,16 +1,17 @@
 -- From what the calls of a reader told to what the reader tells: a line that is a text, a line's number, the number behind a name. Assumes nothing.
-use Prim.Native.Nat.{ℕ, _+_, _≤_}
+use Prim.Native.Nat.{ℕ, _+_, _-_, _≤_, _<_}
 use native.Mathlib.Omega.{arith}
 use mathlib.Core.Path.{_≡_, refl, sym, ap, _∙_}
 use mathlib.Core.Bool.{Bool, true, false}
 use mathlib.Core.List.{List, [], _∷_}
-use lib.ListN.{length, drop, length-drop}
+use mathlib.Core.Option.{some, none}
+use lib.ListN.{length, take, drop, length-drop}
 use lib.Seq.{drop-drop}
 use Rattle.lines.specs.declared.Value.{Value}
 use Rattle.lines.specs.declared.Value.the-variants.{Number, Faulty}
 use Rattle.lines.specs.Lines.{Line, linesOf, firstOf, restOf, isLine, begins, Endless, ended, begins-line, next-line, begins-long, behind-name, no-name}
-use Rattle.lines.specs.Number.{numberIn, digitsIn, value, zeroText, number-zero, number-padded, number-empty, number-digits}
-use Rattle.lines.specs.Told.{ahead, Onward, ReadAs}
+use Rattle.lines.specs.Number.{numeral, numberIn, value}
+use Rattle.lines.specs.Told.{ahead, Onward, ReadAs, EndsAt}
 
 -- The lines n bytes further on.
 further : (w : List ℕ) (at n : ℕ) → linesOf (drop n (drop at w)) ≡ ahead w (at + n)
@@ -36,19 +37,18 @@ module _ (w : List ℕ) (at : ℕ) (in-place : at ≤ length w) where
         ended-long [] = refl
         ended-long (b ∷ l) = omega (arith, ended-long l)
 
-  -- A number: a zero alone, one behind a zero, none, any other.
-  pub read-zero : true ≡ begins (ended zeroText) (drop at w) → ReadAs w at 0 numberIn (Number 0 (at + 2))
-  read-zero e = (number-zero first (text-told zeroText refl true e), text-read zeroText refl 0 (omega arith) e)
+  -- A number: no line to read it from, the bytes of a line read, and told that they are none.
+  module _ (end : ℕ) (q : EndsAt w at end) where
+    pub number-unended : end ≡ length w → ReadAs w at 0 numberIn Faulty
+    number-unended e = ap numberIn (q .unended e)
 
-  pub read-padded : false ≡ begins (ended zeroText) (drop at w) → true ≡ begins zeroText (drop at w) → ReadAs w at 0 numberIn Faulty
-  read-padded e f = number-padded (drop at w) (sym f) (text-told zeroText refl false e)
+    module _ (inside : end < length w) where
+      pub number-read : (n : ℕ) → numeral (take (end - at) (drop at w)) ≡ some n → ReadAs w at 0 numberIn (Number n (end + 1))
+      number-read n e =
+          (ap numberIn (q .line inside) ∙ e, record { follows = q .rest inside; passes = omega (arith, q .onward); within = omega arith })
 
-  pub read-empty : true ≡ begins (10 ∷ []) (drop at w) → ReadAs w at 0 numberIn Faulty
-  read-empty e = number-empty (drop at w) (sym e)
-
-  pub read-other : false ≡ begins zeroText (drop at w) → false ≡ begins (10 ∷ []) (drop at w) → (r : Value) → ReadAs w at 0 (digitsIn 0) r → ReadAs w at 0 numberIn r
-  read-other e f (Number n next) (p, q) = (number-digits (drop at w) (sym e) (sym f) ∙ p, q)
-  read-other e f Faulty p = number-digits (drop at w) (sym e) (sym f) ∙ p
+      pub number-faulty : numeral (take (end - at) (drop at w)) ≡ none → ReadAs w at 0 numberIn Faulty
+      number-faulty e = ap numberIn (q .line inside) ∙ e
 
   -- The number behind a name.
   module _ (name : List ℕ) (endless : Endless name) where

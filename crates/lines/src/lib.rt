@@ -3,8 +3,8 @@ ghost use Prim.Native.Nat.{_≤_};
 ghost use mathlib.Core.Path.{_≡_};
 ghost use lib.ListN.{length, drop};
 ghost use Rattle.lines.specs.Lines.{Endless, begins as Spec·begins};
-ghost use Rattle.lines.specs.Number.{isDigit, numberIn, digitsIn, value};
-ghost use Rattle.lines.specs.Told.{ReadAs};
+ghost use Rattle.lines.specs.Number.{isDigit, numberFrom, numeral, numberIn, value};
+ghost use Rattle.lines.specs.Told.{ReadAs, EndsAt, NumeralAs};
 
 // The number in a line and the place of the next line, or that the line is faulty.
 pub enum Value {
@@ -42,44 +42,76 @@ pub fn begins(input: &[u8], at: usize, bytes: &[u8]) -> bool
     true
 }
 
-// The number from a place to the line's end: a zero stands alone, and any other number does not begin with one.
+// The number that a line is, and the place of the next line.
 fn read_number(input: &[u8], at: usize) -> Value
     requires { ⌜ at ≤ length (now input) ⌝ }
     ensures { λ r. ⌜ ReadAs (now (input .entry)) at 0 numberIn r ⌝ }
 {
-    if begins(input, at, b"0\n") {
-        return Value::Number(0, at + 2);
-    }
-    if begins(input, at, b"0") {
+    let end = line_end(input, at);
+    if end == input.len() {
         return Value::Faulty;
     }
-    if begins(input, at, b"\n") {
-        return Value::Faulty;
+    match read_numeral(&input[at..end]) {
+        Numeral::Number(n) => Value::Number(n, end + 1),
+        Numeral::Faulty => Value::Faulty,
     }
-    read_digits(input, at)
 }
 
-// The number that digits make, from a place to the line's end.
-fn read_digits(input: &[u8], from: usize) -> Value
-    ensures { λ r. ⌜ ReadAs (now (input .entry)) from 0 (digitsIn 0) r ⌝ }
+// The place of the byte 10 that ends the line at a place; the input's length if none does.
+fn line_end(input: &[u8], from: usize) -> usize
+    requires { ⌜ from ≤ length (now input) ⌝ }
+    ensures { λ r. ⌜ EndsAt (now (input .entry)) from r ⌝ }
 {
-    let mut n: u64 = 0;
     let mut at = from;
     while at < input.len() {
-        let byte = input[at];
-        if byte == 10 {
-            return Value::Number(n as u32, at + 1);
-        }
-        if !is_digit(byte) {
-            return Value::Faulty;
-        }
-        n = 10 * n + wide(byte - 48);
-        if 4294967295 < n {
-            return Value::Faulty;
+        if input[at] == 10 {
+            return at;
         }
         at += 1;
     }
-    Value::Faulty
+    at
+}
+
+// The number that bytes are, or that they are none.
+pub enum Numeral {
+    Number(u32),
+    Faulty,
+}
+
+// Reads bytes as a number below 2^32 in decimal: a zero stands alone, and any other number does not begin with one.
+pub fn read_numeral(bytes: &[u8]) -> Numeral
+    ensures { λ r. ⌜ NumeralAs (numeral (now (bytes .entry))) r ⌝ }
+{
+    if bytes.len() == 0 {
+        return Numeral::Faulty;
+    }
+    if bytes[0] != 48 {
+        return read_digits(bytes);
+    }
+    if bytes.len() == 1 {
+        return Numeral::Number(0);
+    }
+    Numeral::Faulty
+}
+
+// The number that digits make.
+fn read_digits(bytes: &[u8]) -> Numeral
+    ensures { λ r. ⌜ NumeralAs (numberFrom 0 (now (bytes .entry))) r ⌝ }
+{
+    let mut n: u64 = 0;
+    let mut j = 0;
+    while j < bytes.len() {
+        let byte = bytes[j];
+        if !is_digit(byte) {
+            return Numeral::Faulty;
+        }
+        n = 10 * n + wide(byte - 48);
+        if 4294967295 < n {
+            return Numeral::Faulty;
+        }
+        j += 1;
+    }
+    Numeral::Number(n as u32)
 }
 
 fn is_digit(byte: u8) -> bool

@@ -17,7 +17,9 @@ use Rattle.slot.specs.declared.Pair.{Pair}
 use Rattle.slot.specs.Slot.{slotAt}
 use Rattle.rules.specs.Sound.{slotsFrom, headSlots, countAt, pageSlots, pagesRight, directoryRight, headRight, countRight, pageFormed, pageRight}
 use Rattle.geometry.specs.Directory.{geometryOf, pagesOf}
+use Rattle.form.specs.Passes.{headScanned, pageScanned}
 use Rattle.walk.specs.Step.{headStep, pageStep}
+use Rattle.walk.specs.Trail.{headLine, pageLine}
 
 -- Two stores agree on the n words from a place on.
 abbrev pub Same : List ℕ → List ℕ → ℕ → ℕ → Type 0
@@ -99,6 +101,10 @@ module _ (w v : List ℕ) (same : Same w v 0 directoryWords) where
         unfolding headStep headRight
         same-head-step = rw (same-head, same-word headCountWord (omega arith), same-count 1)
 
+        pub same-head-line : headLine g w asked ≡ headLine g v asked
+        unfolding headLine headScanned
+        same-head-line = rw (same-head-step, same-head)
+
       -- A page of level i, 64 words.
       module _ (asked : Pair) (i p : ℕ) (page : Same w v (pagePlace g i p) 64) where
         same-page-count : countAt g w i p ≡ countAt g v i p
@@ -114,3 +120,7 @@ module _ (w v : List ℕ) (same : Same w v 0 directoryWords) where
         pub same-page-step : pageStep g w asked i p ≡ pageStep g v asked i p
         unfolding pageStep pageRight pageFormed countRight
         same-page-step = rw (same-page, same-page-count, same-count i, same-count (suc i))
+
+        pub same-page-line : pageLine g w asked i p ≡ pageLine g v asked i p
+        unfolding pageLine pageScanned
+        same-page-line = rw (same-page-step, same-page)

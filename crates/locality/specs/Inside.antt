@@ -18,9 +18,11 @@ use Rattle.walk.specs.declared.Step.the-variants.{Decided, Follow, Nothing, Bro
 use Rattle.form.specs.Passes.{fenceUpTo}
 use Rattle.walk.specs.Step.{headStep, pageStep, StepWithin}
 use Rattle.walk.specs.Read.{head-broken, head-tells, head-within, page-broken, page-first-broken, page-tells, page-within}
+use Rattle.walk.specs.Trail.{pageLine, linesOn, linePages}
 use Rattle.rules.specs.Directed.{pages-most}
+use Rattle.opening.specs.Reply.{byFirst}
 use Rattle.opening.specs.Opening.{opening, opened-range, opened-length}
-use Rattle.locality.specs.Reads.{readOn, walkReads, unlessNone, pagesRead}
+use Rattle.locality.specs.Reads.{pagesRead, pages-read, walk-reads}
 
 -- Pages of level i and of the levels below it, each in its level's room and inside n words.
 abbrev pub PagesInside : Geometry → ℕ → ℕ → List ℕ → Type 0
@@ -53,8 +55,8 @@ module _ (g : Geometry) (w : List ℕ) (asked : Pair) where
         let fits : p < room g (suc i) = omega (arith, k, pages-most g w right (suc i) (omega arith) (omega arith) h) in
         (fits, omega (arith, exact, page-inside g (suc i) p fits, level-inside g (suc i) (omega arith)))
 
-    reads-inside : (m i : ℕ) (s : Step) → i + m < g .levels → (1 ≤ m → StepWithin (pagesOf g w (suc i)) s) → PagesInside g n (suc i) (readOn g w asked m i s)
-    unfolding readOn
+    reads-inside : (m i : ℕ) (s : Step) → i + m < g .levels → (1 ≤ m → StepWithin (pagesOf g w (suc i)) s) → PagesInside g n (suc i) (linePages (linesOn g w asked m i s))
+    unfolding linesOn linePages pageLine
     reads-inside zero i s h k = tt
     reads-inside (suc m) i (Decided held) h k = tt
     reads-inside (suc m) i (Follow page) h k =
@@ -64,14 +66,13 @@ module _ (g : Geometry) (w : List ℕ) (asked : Pair) where
     reads-inside (suc m) i Broken h k = tt
 
 pub reads-lie-inside : (w : List ℕ) (asked : Pair) → PagesInside (geometryOf w) (length w) 1 (pagesRead w asked)
-unfolding pagesRead walkReads
-reads-lie-inside w asked = by (opening w) refl (directoryRight (geometryOf w) w) refl
+reads-lie-inside w asked = rw (pages-read w asked, walk-reads (geometryOf w) w asked) (by (opening w) refl (directoryRight (geometryOf w) w) refl)
   where
     g : Geometry
     g = geometryOf w
 
     by : (n : ℕ) → opening w ≡ n → (b : Bool) → directoryRight g w ≡ b →
-        PagesInside g (length w) 1 (unlessNone n (cond b (readOn g w asked (bottom g) 0 (headStep g w asked)) []))
+        PagesInside g (length w) 1 (byFirst n (cond b (linePages (linesOn g w asked (bottom g) 0 (headStep g w asked))) []) (λ n. []))
     by zero o true e =
         reads-inside g w asked (length w) (opened-range w o .levels-most) (opened-length w o) e (bottom g) 0 (headStep g w asked)
         (omega (arith, opened-range w o .levels-least)) (λ m. head-follows g w asked)

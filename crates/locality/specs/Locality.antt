@@ -1,20 +1,22 @@
--- An ask depends on its pair, the store's length, the directory, the head and at most one page in each lower level, and on nothing else. The
+-- An ask, and a why, depends on its pair, the store's length, the directory, the head and at most one page in each lower level, and on nothing else. The
 -- stores are of any words. Assumes nothing.
 use Prim.Native.Nat.{ℕ, zero, suc, _*_, _≤_}
 use mathlib.Core.Path.{_≡_, refl, sym, ap, _∙_}
-use mathlib.Core.List.{List}
+use mathlib.Core.List.{List, []}
 use lib.ListN.{length}
 use Rattle.geometry.specs.Geometry.{bottom}
 use Rattle.geometry.specs.Places.{headStart, wordsInSlot, headRoom}
 use Rattle.slot.specs.declared.Pair.{Pair}
 use Rattle.geometry.specs.Directory.{geometryOf}
 use Rattle.walk.specs.Walk.{walked}
+use Rattle.walk.specs.Trail.{walkLines, pagesBelow}
 use Rattle.call_ask.specs.declared.Asked.{Asked}
-use Rattle.opening.specs.Reply.{Reply}
+use Rattle.opening.specs.Reply.{Reply, byFirst}
 use Rattle.opening.specs.Opening.{openTests, opening, opened-range}
 use Rattle.call_ask.specs.Ask.{askReply, walkReply, askOf, ask-refused, ask-walked}
+use Rattle.call_why.specs.Why.{whyLines, whyWords, whyOf}
 use Rattle.replies.specs.Unique.{ask-has-one-answer}
-use Rattle.locality.specs.Reads.{walkReads, unlessNone, pagesRead, reads-few}
+use Rattle.locality.specs.Reads.{pagesRead, pages-read, reads-few}
 use Rattle.locality.specs.Inside.{PagesInside, reads-lie-inside}
 use Rattle.locality.specs.Agree.{Same, SamePages, same-geometry}
 use Rattle.locality.specs.Walks.{same-walk}
@@ -40,11 +42,12 @@ module _ (asked : Pair) (w v : List ℕ) (agree : AgreeFor asked w v) where
 
   -- Where the opening tests pass, the walks are the same.
   module _ (opened : opening w ≡ 0) where
-    same-walks : (walked (geometryOf w) w asked ≡ walked (geometryOf w) v asked) × (walkReads (geometryOf w) w asked ≡ walkReads (geometryOf w) v asked)
-    unfolding pagesRead
-    same-walks = same-walk (geometryOf w) w v asked (opened-range w opened .levels-most) (agree .directory) (agree .head) (rw opened at (agree .pages))
+    same-walks : (walked (geometryOf w) w asked ≡ walked (geometryOf w) v asked) × (walkLines (geometryOf w) w asked ≡ walkLines (geometryOf w) v asked)
+    same-walks =
+        same-walk (geometryOf w) w v asked (opened-range w opened .levels-most) (agree .directory) (agree .head)
+        (rw (pages-read w asked, opened) at (agree .pages))
 
-  -- The two stores give the same answer, and the same pages are read in both.
+  -- The two stores give the same answer.
   pub ask-local : askOf w asked ≡ askOf v asked
   ask-local = by (opening w) refl
     where
@@ -54,13 +57,22 @@ module _ (asked : Pair) (w v : List ℕ) (agree : AgreeFor asked w v) where
           ask-walked v asked (sym same-opening ∙ e)
       by (suc n) e = sym (ask-refused w asked n e) ∙ ask-refused v asked n (sym same-opening ∙ e)
 
-  pub reads-local : pagesRead w asked ≡ pagesRead v asked
-  unfolding pagesRead
-  reads-local = rw (← same-opening, ← (same-geometry w v (agree .directory))) (by (opening w) refl)
+  -- The same lines are told of both, with the page read in each level, how many of its slots are at most the pair, and what it told.
+  pub lines-local : whyLines w asked ≡ whyLines v asked
+  unfolding whyLines
+  lines-local = rw (← same-opening, ← (same-geometry w v (agree .directory))) (by (opening w) refl)
     where
-      by : (n : ℕ) → opening w ≡ n → unlessNone n (walkReads (geometryOf w) w asked) ≡ unlessNone n (walkReads (geometryOf w) v asked)
+      by : (n : ℕ) → opening w ≡ n → byFirst n (walkLines (geometryOf w) w asked) (λ n. []) ≡ byFirst n (walkLines (geometryOf w) v asked) (λ n. [])
       by zero e = same-walks e .1
       by (suc n) e = refl
+
+  pub reads-local : pagesRead w asked ≡ pagesRead v asked
+  unfolding pagesRead
+  reads-local = ap pagesBelow lines-local
+
+  pub why-local : whyOf w asked ≡ whyOf v asked
+  unfolding whyOf whyWords
+  why-local = rw (ask-local, lines-local)
 
   -- So it is with what ask returns, and with the number and values that the C interface gives.
   pub ask-returns-local : (a b : Asked) → askReply a ≡ askOf w asked → askReply b ≡ askOf v asked → a ≡ b

@@ -1,54 +1,59 @@
--- The pages that an ask reads: the walk's own recursion, which gives the page of level 1, then that of level 2, as far as it goes. At most one
--- page in each lower level. Assumes nothing.
+-- The pages that an ask or a why reads: those of why's lines below the head, the page of level 1, then that of level 2, as far as it goes. At most
+-- one page in each lower level. Assumes nothing.
 use Prim.Native.Nat.{ℕ, zero, suc, _≤_}
 use native.Mathlib.Omega.{arith}
+use mathlib.Core.Path.{_≡_, refl}
 use mathlib.Core.Bool.{Bool, true, false, cond}
-use mathlib.Core.List.{List, [], _∷_}
-use lib.ListN.{length}
+use mathlib.Core.List.{List, []}
+use lib.ListN.{length, length-map}
 use Rattle.geometry.specs.declared.Geometry.{Geometry}
 use Rattle.geometry.specs.Geometry.{bottom}
 use Rattle.slot.specs.declared.Pair.{Pair}
 use Rattle.rules.specs.Sound.{directoryRight}
 use Rattle.geometry.specs.Directory.{geometryOf}
-use Rattle.walk.specs.declared.Step.{Step}
-use Rattle.walk.specs.declared.Step.the-variants.{Decided, Follow, Nothing, Broken}
-use Rattle.walk.specs.Step.{headStep, pageStep}
+use Rattle.walk.specs.Step.{headStep}
+use Rattle.walk.specs.Trail.{linesOn, trail, walkLines, linePages, pagesBelow, lines-few}
+use Rattle.opening.specs.Reply.{byFirst}
 use Rattle.opening.specs.Opening.{opening}
+use Rattle.call_why.specs.Why.{whyLines}
 
--- The pages from level i + 1 on, of n levels, by what level i told.
-unfoldable pub readOn : Geometry → List ℕ → Pair → ℕ → ℕ → Step → List ℕ
-readOn g w asked zero i step = []
-readOn g w asked (suc n) i (Decided held) = []
-readOn g w asked (suc n) i (Follow page) = page .0 ∷ readOn g w asked n (suc i) (pageStep g w asked (suc i) (page .0))
-readOn g w asked (suc n) i Nothing = []
-readOn g w asked (suc n) i Broken = []
+unfoldable pub pagesRead : List ℕ → Pair → List ℕ
+pagesRead w asked = pagesBelow (whyLines w asked)
 
 -- A walk reads none where the directory is not right, an ask none where an opening test fails.
 unfoldable pub walkReads : Geometry → List ℕ → Pair → List ℕ
-walkReads g w asked = cond (directoryRight g w) (readOn g w asked (bottom g) 0 (headStep g w asked)) []
+walkReads g w asked = pagesBelow (walkLines g w asked)
 
-abbrev pub unlessNone : ℕ → List ℕ → List ℕ
-unlessNone zero pages = pages
-unlessNone (suc n) pages = []
+pub pages-read : (w : List ℕ) (asked : Pair) → pagesRead w asked ≡ byFirst (opening w) (walkReads (geometryOf w) w asked) (λ n. [])
+unfolding pagesRead walkReads whyLines pagesBelow linePages
+pages-read w asked = by (opening w)
+  where
+    by : (n : ℕ) → pagesBelow (byFirst n (walkLines (geometryOf w) w asked) (λ n. [])) ≡ byFirst n (pagesBelow (walkLines (geometryOf w) w asked)) (λ n. [])
+    by zero = refl
+    by (suc n) = refl
 
-unfoldable pub pagesRead : List ℕ → Pair → List ℕ
-pagesRead w asked = unlessNone (opening w) (walkReads (geometryOf w) w asked)
+-- The pages read where the directory is right: those of the lines below what the head told.
+module _ (g : Geometry) (w : List ℕ) (asked : Pair) where
+  pub walk-reads : walkReads g w asked ≡ cond (directoryRight g w) (linePages (linesOn g w asked (bottom g) 0 (headStep g w asked))) []
+  unfolding walkReads walkLines trail pagesBelow linePages
+  walk-reads = by (directoryRight g w)
+    where
+      by : (b : Bool) → pagesBelow (cond b (trail g w asked) []) ≡ cond b (linePages (linesOn g w asked (bottom g) 0 (headStep g w asked))) []
+      by true = refl
+      by false = refl
 
 -- At most one page in each lower level.
-read-on-few : (g : Geometry) (w : List ℕ) (asked : Pair) (n i : ℕ) (s : Step) → length (readOn g w asked n i s) ≤ n
-unfolding readOn
-read-on-few g w asked zero i s = omega arith
-read-on-few g w asked (suc n) i (Decided held) = omega arith
-read-on-few g w asked (suc n) i (Follow page) = omega (arith, read-on-few g w asked n (suc i) (pageStep g w asked (suc i) (page .0)))
-read-on-few g w asked (suc n) i Nothing = omega arith
-read-on-few g w asked (suc n) i Broken = omega arith
-
 pub reads-few : (w : List ℕ) (asked : Pair) → length (pagesRead w asked) ≤ bottom (geometryOf w)
-unfolding pagesRead walkReads
-reads-few w asked = by (opening w) (directoryRight (geometryOf w) w)
+unfolding linePages
+reads-few w asked = rw (pages-read w asked, walk-reads (geometryOf w) w asked) (by (opening w) (directoryRight (geometryOf w) w))
   where
-    by : (n : ℕ) (b : Bool) →
-        length (unlessNone n (cond b (readOn (geometryOf w) w asked (bottom (geometryOf w)) 0 (headStep (geometryOf w) w asked)) [])) ≤ bottom (geometryOf w)
-    by zero true = read-on-few (geometryOf w) w asked (bottom (geometryOf w)) 0 (headStep (geometryOf w) w asked)
+    g : Geometry
+    g = geometryOf w
+
+    below : List ℕ
+    below = linePages (linesOn g w asked (bottom g) 0 (headStep g w asked))
+
+    by : (n : ℕ) (b : Bool) → length (byFirst n (cond b below []) (λ n. [])) ≤ bottom g
+    by zero true = rw (length-map (linesOn g w asked (bottom g) 0 (headStep g w asked)) (λ line. line .page)) (lines-few g w asked (bottom g) 0 (headStep g w asked))
     by zero false = omega arith
     by (suc n) b = omega arith

@@ -5,7 +5,7 @@ use native.Mathlib.Nat.{zero-add, add-zero, sub-zero}
 use native.Mathlib.Omega.{arith}
 use mathlib.Core.Path.{_≡_, refl, sym, ap, _∙_}
 use mathlib.Core.Logic.{_≢_}
-use mathlib.Core.Bool.{Bool, true, false, not, _&&_, cond}
+use mathlib.Core.Bool.{Bool, true, false, not, _&&_, _||_, cond}
 use mathlib.Core.List.{List, [], _∷_}
 use lib.ListN.{length, take}
 use lib.Dec.{ltb, eqb}
@@ -46,6 +46,24 @@ order-from-least : (ss : List Slot) → inOrder ss ≡ chain 0 true ss
 unfolding inOrder chain
 order-from-least [] = refl
 order-from-least (s ∷ ss) = rw (any-follows (rank (s .pair))) (chain-order s ss)
+
+-- What follows a slot in order is in order.
+pub order-rest : (s : Slot) (ss : List Slot) → inOrder (s ∷ ss) ≡ true → inOrder ss ≡ true
+unfolding inOrder chain
+order-rest s [] e = refl
+order-rest s (b ∷ ss) e =
+    chain-order b ss ∙
+    and-right (mayFollow (rank (s .pair)) (fenceKind (s .kind)) (rank (b .pair))) (chain (rank (b .pair)) (fenceKind (b .kind)) ss)
+    (sym (chain-order s (b ∷ ss)) ∙ e)
+
+-- What follows an index entry is above it.
+entry-follows : (last next : ℕ) → mayFollow last false next ≡ true → ltb last next ≡ true
+unfolding mayFollow
+entry-follows last next m = above (ltb last next) m
+  where
+    above : (b : Bool) → (b || (eqb last next && false)) ≡ true → b ≡ true
+    above true h = refl
+    above false h = sym (and-false (eqb last next)) ∙ h
 
 -- Every tag right, from a number of fences on.
 unfoldable pub tagged : (ℕ → Slot → Bool) → ℕ → List Slot → Bool
@@ -239,3 +257,15 @@ module _ (asked : Pair) where
   unfolding before
   none-at-most s ss e h =
       passing-no (upTo asked) s ss (ap not h) ∙ above-stays (rank (s .pair)) (fenceKind (s .kind)) ss (sym (chain-order s ss) ∙ e) h
+
+  -- After an index entry of the pair asked, all are.
+  pub none-after-entry : (s : Slot) (ss : List Slot) → inOrder (s ∷ ss) ≡ true → same asked (s .pair) ≡ true → fenceKind (s .kind) ≡ false →
+      passing (λ s. not (before asked (s .pair))) ss ≡ []
+  unfolding chain passing before same
+  none-after-entry s [] e h k = refl
+  none-after-entry s (b ∷ ss) e h k =
+      let c : chain (rank (s .pair)) (fenceKind (s .kind)) (b ∷ ss) ≡ true = sym (chain-order s (b ∷ ss)) ∙ e in
+      let m : mayFollow (rank asked) false (rank (b .pair)) ≡ true =
+      rw (eqb-true (rank asked) (rank (s .pair)) h, ← k)
+      (and-left (mayFollow (rank (s .pair)) (fenceKind (s .kind)) (rank (b .pair))) (chain (rank (b .pair)) (fenceKind (b .kind)) ss) c) in
+      none-at-most b ss (order-rest s (b ∷ ss) e) (entry-follows (rank asked) (rank (b .pair)) m)

@@ -1,4 +1,5 @@
--- A number as text in decimal (Decimal), a line with a number (Line), and how text comes into a buffer (Printed, Digits).
+-- A text as bytes (Text), a number in decimal (Decimal), a name or a line with a number (Line), and how bytes come into a buffer (Printed, Digits).
+pub mod Text
 pub mod Decimal
 pub mod Printed
 pub mod Digits

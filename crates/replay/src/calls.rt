@@ -28,6 +28,14 @@ pub fn ask_line(store: &[u32], pair: Pair) {
     end_line();
 }
 
+// The line has every word of the trail, also after a refusal.
+pub fn why_line(store: &[u32], pair: Pair) {
+    let mut trail = [0u32; 22];
+    let reply = ask_reply(index::why(store, pair, &mut trail));
+    print_reply(reply.number, &trail);
+    end_line();
+}
+
 // The line has a second value, which a check has none of.
 pub fn check_line(store: &[u32]) {
     let reply = check_reply(index::check(store));

@@ -6,6 +6,7 @@
 //   5 badge floor n                put, with a work area of n words, of which word j is j
 //   6 badge floor n                drop, likewise
 //   7 H k l                        format
+//   8 badge floor                  why
 // Each call prints a line: the reply's number and its values, after a list the words of the slice, and after a put, a drop or a format the
 // words that it changed, those of the store behind `store` and those of the work area behind `work`. There ` 8=2 12=0*3` says that word 8
 // is 2 now, and that words 12 to 14 are 0.
@@ -21,6 +22,7 @@ use calls::check_line;
 use calls::edit_line;
 use calls::format_line;
 use calls::list_line;
+use calls::why_line;
 use geometry::Geometry;
 use libc::STDIN_FILENO;
 use lines::end_line;
@@ -78,6 +80,7 @@ fn call(script: &[u8], at: usize, op: u32, store: &mut [u32])
         5 => edit_line(store, true, pair, words),
         6 => edit_line(store, false, pair, words),
         7 => format_line(store, geometry_at(script, at + 4)),
+        8 => why_line(store, pair),
         _ => end_line(),
     }
 }
@@ -92,6 +95,7 @@ fn length_of(op: u32) -> usize
         5 => 16,
         6 => 16,
         7 => 16,
+        8 => 12,
         _ => 4,
     }
 }

@@ -4,10 +4,13 @@ use Prim.Native.Nat.{ℕ, zero, suc}
 use mathlib.Core.Path.{_≡_, refl, sym, ap, _∙_}
 use mathlib.Core.Bool.{true, false}
 use mathlib.Core.List.{List, [], _∷_, _++_}
+use lib.ListN.{replicate}
 use Rattle.geometry.specs.declared.Geometry.{Geometry}
 use Rattle.slot.specs.declared.Pair.{Pair}
 use Rattle.opening.specs.Reply.{Reply, firstFailing, byFirst, Filled}
 use Rattle.call_ask.specs.Ask.{askOf}
+use Rattle.walk.specs.Lines.{linesWords}
+use Rattle.call_why.specs.Why.{whyLines, whyValues, whyWords, whyOf}
 use Rattle.call_check.specs.Check.{checkOf}
 use Rattle.call_check.specs.List.{listOf}
 use Rattle.call_format.specs.Format.{formatTests, formatOf}
@@ -121,6 +124,23 @@ module _ (w : List ℕ) (p : Pair) where
   pub ask-refusal-values : (askReplied .number ≡ 0 → ⊥) → askReplied .values ≡ faultTold (askReplied .number) (walkFault w p) ++ 0 ∷ []
   unfolding askRefused
   ask-refusal-values h = ap (λ (r : Reply). r .values) (ask-refuses h)
+
+-- Why tests what ask tests.
+module _ (w : List ℕ) (p : Pair) where
+  abbrev whyReplied : Reply
+  whyReplied = whyOf w p
+
+  pub why-reply-first-failing : whyReplied .number ≡ firstFailing (askTests w p)
+  unfolding whyOf
+  why-reply-first-failing = ask-reply-first-failing w p
+
+  pub why-refusal-values : (whyReplied .number ≡ 0 → ⊥) → whyReplied .values ≡ askOf w p .values ++ replicate 20 0
+  unfolding whyOf whyWords linesWords
+  why-refusal-values h = by (askOf w p .number) refl
+    where
+      by : (n : ℕ) → askOf w p .number ≡ n → whyValues (askOf w p) (whyLines w p) ≡ askOf w p .values ++ replicate 20 0
+      by zero e = absurd (h e)
+      by (suc n) e = rw e refl
 
 -- Check.
 module _ (w : List ℕ) where

@@ -17,6 +17,7 @@ use Rattle.call_format.specs.declared.Formatted.{Formatted}
 use Rattle.call_format.specs.declared.Formatted.the-variants.{Done as Done-of-format, Range as Range-of-format, Length as Length-of-format}
 use Rattle.opening.specs.Reply.{Reply, faultBy, Filled}
 use Rattle.call_ask.specs.Ask.{askReply, askOf}
+use Rattle.call_why.specs.Why.{whyWords}
 use Rattle.call_check.specs.Check.{checkReply, checkOf}
 use Rattle.call_check.specs.List.{listReply, listOf}
 use Rattle.call_format.specs.Format.{formatReply, formatOf}
@@ -41,6 +42,10 @@ ask-told (Fault fault) = refl
 
 pub ask-has-one-answer : (w : List ℕ) (pair : Pair) (a b : Asked) → askReply a ≡ askOf w pair → askReply b ≡ askOf w pair → a ≡ b
 ask-has-one-answer w pair a b p q = sym (ask-told a) ∙ ap askedBy (p ∙ sym q) ∙ ask-told b
+
+pub why-has-one-answer : (w : List ℕ) (pair : Pair) (a b : Asked) (t u : List ℕ) → askReply a ≡ askOf w pair → askReply b ≡ askOf w pair →
+    t ≡ whyWords w pair → u ≡ whyWords w pair → (a ≡ b) × (t ≡ u)
+why-has-one-answer w pair a b t u p q x y = (ask-has-one-answer w pair a b p q, x ∙ sym y)
 
 -- Check.
 checkedBy : Reply → Checked

@@ -98,6 +98,7 @@ fn is_low(most: u32, reply: EditReply) -> bool {
     reply.number == 0 && reply.values[0] <= most / 4
 }
 
+// Asks for a pair, and why the answer is as it is.
 fn ask_call(s: Sequence, state: State, store: &[u32]) -> State
     requires { ⌜ Fit s (length (now store)) ⌝ }
 {
@@ -106,7 +107,14 @@ fn ask_call(s: Sequence, state: State, store: &[u32]) -> State
     let before = state.replies;
     let reply = ask_reply(index::ask(store, pair));
     let values = reply.values;
-    noted(state, drawn.x, add_reply(before, reply.number, &values))
+    let asked = add_reply(before, reply.number, &values);
+    noted(state, drawn.x, add_why(asked, store, pair))
+}
+
+fn add_why(replies: Digest, store: &[u32], pair: Pair) -> Digest {
+    let mut trail = [0u32; 22];
+    let reply = ask_reply(index::why(store, pair, &mut trail));
+    add_reply(replies, reply.number, &trail)
 }
 
 fn check_call(state: State, store: &[u32]) -> State {

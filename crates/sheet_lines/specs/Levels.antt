@@ -40,13 +40,13 @@ pub record Levelling (w : List ℕ) (at levels : ℕ) (counts v : List ℕ) (end
 module _ (w : List ℕ) (at levels : ℕ) (counts : List ℕ) where
   pub levels-begin : Levelling w at levels counts w at 0
   unfolding levelLines concat
-  levels-begin = record { printed = printed-none w at; short = omega arith; not-past = omega arith; long = refl }
+  levels-begin = record { printed = printed-none; short = omega arith; not-past = omega arith; long = refl }
 
   module _ (v : List ℕ) (end level : ℕ) (c : Levelling w at levels counts v end level) where
     pub levels-go-on : levels ≤ 4 → level < levels → (u : List ℕ) (next : ℕ) → Printed v end (line (levelName level) (getD counts level 0)) u next →
         next ≤ end + 28 → length u ≡ length v → Levelling w at levels counts u next (level + 1)
     levels-go-on few more u next p h l = record {
-      printed = rw (lines-more counts level (omega arith)) (printed-then w at (levelLines level counts) (line (levelName level) (getD counts level 0)) (c .printed) p);
+      printed = rw (lines-more counts level (omega arith)) (printed-then (c .printed) p);
       short = omega (arith, c .short);
       not-past = omega arith;
       long = l ∙ c .long;
@@ -59,6 +59,4 @@ module _ (w : List ℕ) (at levels : ℕ) (counts : List ℕ) where
 pub last-printed : (w : List ℕ) (at levels live : ℕ) (counts : List ℕ) (pages : ℕ) {v u x : List ℕ} {a b c : ℕ} → Printed w at (line liveName live) v a →
     Printed v a (levelLines levels counts) u b → Printed u b (line pagesName pages) x c → Printed w at (lastLines levels live counts pages) x c
 unfolding lastLines
-last-printed w at levels live counts pages {v} {a = a} p q r =
-    printed-then w at (line liveName live) (levelLines levels counts ++ line pagesName pages) p
-    (printed-then v a (levelLines levels counts) (line pagesName pages) q r)
+last-printed w at levels live counts pages p q r = printed-then p (printed-then q r)

@@ -15,7 +15,7 @@ use Rattle.sheet_text.specs.Playing.{Within}
 module _ (input out : List ℕ) where
   pub prints-nothing : length out < textRoom → Printed out 0 (printedIn (length out) input) out 0
   unfolding printedIn
-  prints-nothing h = rw (lt-leb textRoom (length out) h, printedIn) (printed-none out 0)
+  prints-nothing h = rw (lt-leb textRoom (length out) h, printedIn) printed-none
 
   module _ (roomy : textRoom ≤ length out) where
     pub prints : {v : List ℕ} {end : ℕ} → Within out (sheetOf input) v end → Printed out 0 (printedIn (length out) input) v end

@@ -9,9 +9,11 @@ ghost use Rattle.rules.specs.Level.{fenceKind};
 ghost use Rattle.rules.specs.Sound.{directoryRight};
 ghost use Rattle.geometry.specs.Directory.{pagesOf};
 ghost use Rattle.slot.specs.Slot.{slotAt};
-ghost use Rattle.form.specs.Passes.{fenceUpTo, headScanned};
+ghost use Rattle.form.specs.Passes.{fenceUpTo, headScanned, pageScanned};
 ghost use Rattle.walk.specs.Step.{StepWithin, aboveStep, bottomStep, headStep, pageStep};
 ghost use Rattle.walk.specs.Walk.{walked, walkFrom};
+ghost use Rattle.walk.specs.Trail.{linesFrom, walkLines};
+ghost use Rattle.walk.specs.Lines.{lineTold, entryNumber, followNumber, noteAt, noted};
 ghost use Rattle.geometry.specs.Lent.{Lent};
 use fault::Fault;
 use form::HeadRead;
@@ -34,6 +36,15 @@ use slot::Pid;
 use slot::SlotNo;
 use slot::comes_before;
 use slot::read_slot;
+use trail_words::ENTRY;
+use trail_words::FILTER;
+use trail_words::FIRST_LINE;
+use trail_words::FOLLOWED;
+use trail_words::LINE_WORDS;
+use trail_words::NORMAL;
+use trail_words::PAGE;
+use trail_words::REACH;
+use trail_words::READ;
 
 // What the head or a page tells of a pair: its own entry, the page to follow, nothing, or that a test failed.
 pub enum Step {
@@ -41,6 +52,12 @@ pub enum Step {
     Follow(Pid),
     Nothing,
     Broken,
+}
+
+// What a page tells of a pair, and how many of its slots are at most it.
+pub struct Look {
+    pub step: Step,
+    pub reach: u32,
 }
 
 // What a walk comes to: held or not with the deciding level, or a fault.
@@ -110,24 +127,38 @@ fn head_step(store: &[u32], g: Geometry, plan: Plan, asked: Pair, head: HeadRead
 }
 
 // What a page of a lower level tells of a pair.
-pub fn page_step(store: &[u32], g: Geometry, plan: Plan, asked: Pair, level: u32, page: Pid) -> Step
+fn page_look(store: &[u32], g: Geometry, plan: Plan, asked: Pair, level: u32, page: Pid) -> Look
     requires { ⌜ Lent g plan (now store) ⌝ }
     requires { ⌜ (1 ≤ level) × (level < g .levels) × (page .0 < room g level) ⌝ }
-    ensures exact { λ r. ⌜ r ≡ pageStep g (now (store .entry)) asked level (page .0) ⌝ }
-    ensures within { λ r. ⌜ StepWithin (pagesOf g (now (store .entry)) (level + 1)) r ⌝ }
+    ensures exact { λ r. ⌜ r .step ≡ pageStep g (now (store .entry)) asked level (page .0) ⌝ }
+    ensures within { λ r. ⌜ StepWithin (pagesOf g (now (store .entry)) (level + 1)) (r .step) ⌝ }
+    ensures reaches { λ r. ⌜ r .reach ≡ (pageScanned g (now (store .entry)) asked level (page .0)) .reach ⌝ }
 {
     let scan = page_scan(store, g, plan, asked, level, page);
+    let reach = scan.reach;
     if !scan.formed {
-        return Step::Broken;
+        return Look {
+            step: Step::Broken,
+            reach,
+        };
     }
     let place = page_place(store, g, plan, level, page) + FIRST_SLOT;
     if level + 1 == g.levels {
-        return tell_bottom(store, place, scan.reach, asked);
+        return Look {
+            step: tell_bottom(store, place, reach, asked),
+            reach,
+        };
     }
     if !is_first_right(store, place, asked) {
-        return Step::Broken;
+        return Look {
+            step: Step::Broken,
+            reach,
+        };
     }
-    tell_above(store, place, scan.reach, asked)
+    Look {
+        step: tell_above(store, place, reach, asked),
+        reach,
+    }
 }
 
 // The walk from the head down.
@@ -145,41 +176,77 @@ pub fn walk_survey(store: &[u32], g: Geometry, plan: Plan, asked: Pair) -> Surve
     ensures walks { λ r. ⌜ r .walked ≡ walked g (now (store .entry)) asked ⌝ }
     ensures reads { λ r. ⌜ r .head ≡ headScanned g (now (store .entry)) asked ⌝ }
 {
+    let mut no_trail = [0u32; 0];
+    walk_noted(store, g, plan, asked, &mut no_trail)
+}
+
+// The same walk, which notes a line for each level that it reads, if the trail has room for it.
+pub fn walk_noted(store: &[u32], g: Geometry, plan: Plan, asked: Pair, trail: &mut [u32]) -> Survey
+    requires { ⌜ Lent g plan (now store) ⌝ }
+    ensures walks { λ r. ⌜ r .walked ≡ walked g (now (store .entry)) asked ⌝ }
+    ensures reads { λ r. ⌜ r .head ≡ headScanned g (now (store .entry)) asked ⌝ }
+    ensures notes { λ r. ⌜ now (trail .exit) ≡ noted (now (trail .entry)) 0 (walkLines g (now (store .entry)) asked) ⌝ }
+{
     let head = head_scan(store, g, plan, asked);
     Survey {
-        walked: walk_past(store, g, plan, asked, head),
+        walked: walk_past(store, g, plan, asked, head, trail),
         head,
     }
 }
 
 // The walk after the pass over the head.
-fn walk_past(store: &[u32], g: Geometry, plan: Plan, asked: Pair, head: HeadRead) -> Walked
+fn walk_past(
+    store: &[u32],
+    g: Geometry,
+    plan: Plan,
+    asked: Pair,
+    head: HeadRead,
+    trail: &mut [u32],
+) -> Walked
     requires { ⌜ Lent g plan (now store) ⌝ }
     requires { ⌜ head ≡ headScanned g (now store) asked ⌝ }
-    ensures { λ r. ⌜ r ≡ walked g (now (store .entry)) asked ⌝ }
+    ensures walks { λ r. ⌜ r ≡ walked g (now (store .entry)) asked ⌝ }
+    ensures notes { λ r. ⌜ now (trail .exit) ≡ noted (now (trail .entry)) 0 (walkLines g (now (store .entry)) asked) ⌝ }
 {
     if !directory_right(store, g, plan) {
         return Walked::Fault(Fault { level: 0 });
     }
-    match head_step(store, g, plan, asked, head) {
+    let step = head_step(store, g, plan, asked, head);
+    let look = Look {
+        step,
+        reach: head.reach,
+    };
+    note(trail, 0, Pid(0), look);
+    match step {
         Step::Decided(held) => Walked::Found(held, 0),
-        Step::Follow(page) => walk_levels(store, g, plan, asked, page),
+        Step::Follow(page) => walk_levels(store, g, plan, asked, page, trail),
         Step::Nothing => Walked::Found(false, g.levels),
         Step::Broken => Walked::Fault(Fault { level: 0 }),
     }
 }
 
 // The walk over the lower levels, from a page of level 1 on.
-fn walk_levels(store: &[u32], g: Geometry, plan: Plan, asked: Pair, first: Pid) -> Walked
+fn walk_levels(
+    store: &[u32],
+    g: Geometry,
+    plan: Plan,
+    asked: Pair,
+    first: Pid,
+    trail: &mut [u32],
+) -> Walked
     requires { ⌜ Lent g plan (now store) ⌝ }
     requires { ⌜ directoryRight g (now store) ≡ true ⌝ }
     requires { ⌜ first .0 < pagesOf g (now store) 1 ⌝ }
-    ensures { λ r. ⌜ r ≡ walkFrom g (now (store .entry)) asked 1 (first .0) ⌝ }
+    ensures walks { λ r. ⌜ r ≡ walkFrom g (now (store .entry)) asked 1 (first .0) ⌝ }
+    ensures notes { λ r. ⌜ now (trail .exit) ≡ noted (now (trail .entry)) 1 (linesFrom g (now (store .entry)) asked 1 (first .0)) ⌝ }
 {
     let mut page = first;
     let mut level = 1;
     while level < g.levels {
-        match page_step(store, g, plan, asked, level, page) {
+        let look = page_look(store, g, plan, asked, level, page);
+        note(trail, level, page, look);
+        let step = look.step;
+        match step {
             Step::Decided(held) => return Walked::Found(held, level),
             Step::Follow(next) => {
                 page = next;
@@ -190,4 +257,45 @@ fn walk_levels(store: &[u32], g: Geometry, plan: Plan, asked: Pair, first: Pid) 
         }
     }
     Walked::Found(false, g.levels)
+}
+
+// Notes the line of a level, if the trail has room for it: read, its page, the slots at most the pair, the entry met, the page to follow.
+fn note(trail: &mut [u32], level: u32, page: Pid, look: Look)
+    requires { ⌜ (level ≤ 3) × StepWithin 4294967295 (look .step) ⌝ }
+    ensures { λ _. ⌜ now (trail .exit) ≡ noteAt (now (trail .entry)) level (lineTold page look) ⌝ }
+{
+    let at = FIRST_LINE + LINE_WORDS * level as usize;
+    let step = look.step;
+    if at + LINE_WORDS <= trail.len() {
+        trail[at + READ] = 1;
+        trail[at + PAGE] = page.0;
+        trail[at + REACH] = look.reach;
+        trail[at + ENTRY] = entry_number(step);
+        trail[at + FOLLOWED] = follow_number(step);
+    }
+}
+
+// What stands for the entry met, 0 for none.
+fn entry_number(step: Step) -> u32
+    ensures { λ r. ⌜ r ≡ entryNumber step ⌝ }
+{
+    match step {
+        Step::Decided(normal) => { if normal { NORMAL } else { FILTER } }
+        Step::Follow(page) => 0,
+        Step::Nothing => 0,
+        Step::Broken => 0,
+    }
+}
+
+// The page to follow and one more, or 0 for none.
+fn follow_number(step: Step) -> u32
+    requires { ⌜ StepWithin 4294967295 step ⌝ }
+    ensures { λ r. ⌜ r ≡ followNumber step ⌝ }
+{
+    match step {
+        Step::Decided(normal) => 0,
+        Step::Follow(page) => page.0 + 1,
+        Step::Nothing => 0,
+        Step::Broken => 0,
+    }
 }

@@ -17,7 +17,8 @@ pub fn on(random: &mut Random, geometry: Geometry, store: &[u32]) -> Vec<Call> {
         let pair = near(random, &known);
         let work = work_length(random, geometry);
         calls.push(match random.below(10) {
-            0..3 => Call::Ask(pair),
+            0..2 => Call::Ask(pair),
+            2 => Call::Why(pair),
             3..6 => Call::Put(pair, work),
             6..8 => Call::Drop(pair, work),
             8 => Call::List(pair, near(random, &known), random.below(30)),

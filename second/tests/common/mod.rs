@@ -1,10 +1,10 @@
 //! What several tests use.
 #![allow(dead_code)]
 
-use std::path::Path;
+use std::path::{Path, PathBuf};
 
 use second::geometry::Geometry;
-use second::vectors;
+use second::{sheet_vectors, vectors};
 
 /// The geometries that long sequences must cover.
 pub const GEOMETRIES: [&str; 7] = [
@@ -16,8 +16,17 @@ pub fn geometry(text: &str) -> Geometry {
     text.parse().expect("a geometry")
 }
 
-/// The texts of the vector files.
+/// The texts of the vector files that hold cases.
 pub fn vector_texts() -> Vec<String> {
-    let folder = Path::new(env!("CARGO_MANIFEST_DIR")).join("vectors");
-    vectors::texts(&folder).unwrap_or_else(|message| panic!("{message}"))
+    vectors::texts(&vector_folder()).unwrap_or_else(|message| panic!("{message}"))
+}
+
+/// The text of the vector file that holds sheets.
+pub fn sheet_text() -> String {
+    sheet_vectors::text(&vector_folder()).unwrap_or_else(|message| panic!("{message}"))
+}
+
+/// The folder of the vector files.
+fn vector_folder() -> PathBuf {
+    Path::new(env!("CARGO_MANIFEST_DIR")).join("vectors")
 }

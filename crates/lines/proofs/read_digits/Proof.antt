@@ -1,86 +1,96 @@
--- `read_digits` reads digits up to the line's end: the number so far and the rest of the line tell the number. Assumes nothing.
-use Rattle.lines.specs.Number.{digit-within}
+-- `read_digits` reads digit by digit: the number so far and the bytes left tell the number. Assumes nothing.
 use Prim.Native.Nat.{_-_}
 use denote.Ref.{now}
 use lib.ListN.{length}
 use Rattle.laws.specs.Tests.{told-no, told-past}
-use Rattle.lines.specs.Counting.{Counting, count-begins, count-unended, count-ends, count-stops, count-overflows, count-goes-on}
+use Rattle.lines.specs.Number.{digit-within}
+use Rattle.lines.specs.Counting.{Counting, count-begins, count-ends, count-stops, count-overflows, count-goes-on}
 use borrow.Author.Needs.{needs}
 use native.Mathlib.Omega.{arith}
 use Rattle.lines.proofs.read_digits.Statement.{statement}
 use Rattle.lines.proofs.read_digits.Tie as tie
 
 abbrev Inv-loop : tie.InvT-loop
-Inv-loop input from n₀ at₀ n at = Counting input from at n
+Inv-loop bytes n₀ j₀ n j = Counting bytes j n
 
 abbrev μ-loop : tie.MeasureT-loop
-μ-loop input from n₀ at₀ n at = length input - at
+μ-loop bytes n₀ j₀ n j = length bytes - j
 
 loop-holds : tie.Need-loop-holds Inv-loop μ-loop
 loop-holds c =
-    let a = c .before .args in
-    count-begins (now (a .input)) (a .from)
+    let entry = c .before in
+    count-begins (now (entry .args .bytes))
 
 shared-slice-read-byte : tie.Need-shared-slice-read-byte Inv-loop μ-loop
 shared-slice-read-byte c = search needs
 
-cast-t10 : tie.Need-cast-t10 Inv-loop μ-loop
-cast-t10 c = search needs
-
-add-t11 : tie.Need-add-t11 Inv-loop μ-loop
-add-t11 c = search needs
-
-returns : tie.Need-returns Inv-loop μ-loop
-returns c =
-    let at-loop = c .before .before .before in
-    let entry = at-loop .before .before in
-    count-ends (now (entry .args .input)) (entry .args .from) (at-loop .loop .at) (at-loop .loop .n) (at-loop .loop .inv) (omega arith) (c .if1 .taken)
-
 is-digit-requires : tie.Need-is-digit-requires Inv-loop μ-loop
 is-digit-requires c κs = search needs
 
-returns-2 : tie.Need-returns-2 Inv-loop μ-loop
-returns-2 c =
-    let at-loop = c .before .before .before .before .before in
+returns : tie.Need-returns Inv-loop μ-loop
+returns c =
+    let at-is-digit = c .before in
+    let at-loop = at-is-digit .before .before .before in
     let entry = at-loop .before .before in
-    count-stops (now (entry .args .input)) (entry .args .from) (at-loop .loop .at) (at-loop .loop .n) (at-loop .loop .inv) (omega arith) (c .before .before .if1 .left) (told-no _ _ (c .before .is-digit .ensures) (c .if2 .taken))
+    count-stops (now (entry .args .bytes)) (at-loop .loop .j) (at-loop .loop .n) (at-loop .loop .inv) (omega arith) (told-no _ _ (at-is-digit .is-digit .ensures) (c .if1 .taken))
 
 mul-n : tie.Need-mul-n Inv-loop μ-loop
-mul-n c = omega (arith, c .before .before .before .before .before .loop .inv .word)
+mul-n c =
+    let at-loop = c .before .before .before .before in
+    omega (arith, at-loop .loop .inv .word)
 
 sub-wide : tie.Need-sub-wide Inv-loop μ-loop
-sub-wide c = omega (arith, digit-within _ (told-past _ _ (c .before .is-digit .ensures) (c .if2 .left)) .0)
+sub-wide c =
+    let at-is-digit = c .before in
+    omega (arith, digit-within _ (told-past _ _ (at-is-digit .is-digit .ensures) (c .if1 .left)) .0)
 
 wide-requires : tie.Need-wide-requires Inv-loop μ-loop
 wide-requires c κs = search needs
 
 add-n : tie.Need-add-n Inv-loop μ-loop
 add-n c =
-    let at-loop = c .before .before .before .before .before .before in
-    omega (arith, at-loop .loop .inv .word, c .wide .ensures, at-loop .before .shared-slice-known .given (at-loop .loop .at))
+    let at-loop = c .before .before .before .before .before in
+    let at-shared-slice-known = at-loop .before in
+    omega (arith, at-loop .loop .inv .word, c .wide .ensures, at-shared-slice-known .shared-slice-known .given (at-loop .loop .j))
 
-returns-3 : tie.Need-returns-3 Inv-loop μ-loop
-returns-3 c =
-    let at-loop = c .before .before .before .before .before .before .before in
+returns-2 : tie.Need-returns-2 Inv-loop μ-loop
+returns-2 c =
+    let at-wide = c .before in
+    let at-if1 = at-wide .before in
+    let at-is-digit = at-if1 .before in
+    let at-loop = at-is-digit .before .before .before in
     let entry = at-loop .before .before in
-    count-overflows (now (entry .args .input)) (entry .args .from) (at-loop .loop .at) (at-loop .loop .n) (at-loop .loop .inv) (omega arith) (c .before .before .before .before .if1 .left) (told-past _ _ (c .before .before .before .is-digit .ensures) (c .before .before .if2 .left)) _ (c .before .wide .ensures) (c .if3 .taken)
+    let l = at-loop .loop in
+    let digit = told-past _ _ (at-is-digit .is-digit .ensures) (at-if1 .if1 .left) in
+    count-overflows (now (entry .args .bytes)) (l .j) (l .n) (l .inv) (omega arith) digit _ (at-wide .wide .ensures) (c .if2 .taken)
 
-add-at : tie.Need-add-at Inv-loop μ-loop
-add-at c = search needs
+add-j : tie.Need-add-j Inv-loop μ-loop
+add-j c = search needs
 
 loop-less : tie.Need-loop-less Inv-loop μ-loop
 loop-less c = search needs
 
 loop-again : tie.Need-loop-again Inv-loop μ-loop
 loop-again c =
-    let at-loop = c .before .before .before .before .before .before .before in
+    let at-wide = c .before in
+    let at-if1 = at-wide .before in
+    let at-is-digit = at-if1 .before in
+    let at-loop = at-is-digit .before .before .before in
     let entry = at-loop .before .before in
-    count-goes-on (now (entry .args .input)) (entry .args .from) (at-loop .loop .at) (at-loop .loop .n) (at-loop .loop .inv) (omega arith) (c .before .before .before .before .if1 .left) (told-past _ _ (c .before .before .before .is-digit .ensures) (c .before .before .if2 .left)) _ (c .before .wide .ensures) (c .if3 .left)
+    let l = at-loop .loop in
+    let digit = told-past _ _ (at-is-digit .is-digit .ensures) (at-if1 .if1 .left) in
+    count-goes-on (now (entry .args .bytes)) (l .j) (l .n) (l .inv) (omega arith) digit _ (at-wide .wide .ensures) (c .if2 .left)
 
-returns-4 : tie.Need-returns-4 Inv-loop μ-loop
-returns-4 c =
-    let entry = c .before .before .before in
-    count-unended (now (entry .args .input)) (entry .args .from) (c .before .loop .at) (c .before .loop .n) (c .before .loop .inv) (omega arith)
+cast-t12 : tie.Need-cast-t12 Inv-loop μ-loop
+cast-t12 c =
+    let at-loop = c .before in
+    omega (arith, at-loop .loop .inv .word)
+
+returns-3 : tie.Need-returns-3 Inv-loop μ-loop
+returns-3 c =
+    let at-loop = c .before in
+    let entry = at-loop .before .before in
+    count-ends (now (entry .args .bytes)) (at-loop .loop .j) (at-loop .loop .n) (at-loop .loop .inv) (omega arith)
 
 pub read-digits-spec : {M : Type 1} → statement M
 read-digits-spec =
@@ -90,17 +100,15 @@ read-digits-spec =
     μ-loop
     loop-holds
     shared-slice-read-byte
-    cast-t10
-    add-t11
-    returns
     is-digit-requires
-    returns-2
+    returns
     mul-n
     sub-wide
     wide-requires
     add-n
-    returns-3
-    add-at
+    returns-2
+    add-j
     loop-less
     loop-again
-    returns-4)
+    cast-t12
+    returns-3)

@@ -1,109 +1,121 @@
--- `walk_levels` walks the lower levels. The loop's invariant: the walk from here is the walk from the first page, which the level has.
--- Assumes nothing.
+-- `walk_levels` walks the lower levels and notes a line for each. The loop's invariant: the walk and its notes from here are those from the
+-- first page, which the level has. Assumes nothing.
 use Prim.Native.Nat.{_≤_, _<_, _-_, _+_}
-use mathlib.Core.Path.{_≡_, refl, sym, ap, _∙_}
+use mathlib.Core.Path.{_≡_, refl, ap, _∙_}
+use lib.ListN.{length}
+use Rattle.walk.specs.Lines.{length-note}
 use Rattle.geometry.specs.Directory.{pagesOf}
 use Rattle.rules.specs.Directed.{pages-most}
-use Rattle.walk.specs.declared.Step.{Step}
-use Rattle.walk.specs.Walk.{walkFrom, walkOn, walk-decided, walk-nothing, walk-broken, walk-into, walk-follows, walk-ends}
+use Rattle.walk.specs.Noting.{Noted, follow-small, notedFrom, level-noted, ends-decided, ends-nothing, ends-broken, goes-on, ends-past}
 use borrow.Author.Needs.{needs}
 use native.Mathlib.Omega.{arith}
 use Rattle.walk.proofs.walk_levels.Statement.{statement}
 use Rattle.walk.proofs.walk_levels.Tie as tie
 
 abbrev Inv-loop : tie.InvT-loop
-Inv-loop store g plan asked page₀ level₀ page level =
-    (1 ≤ level) × (page .0 < pagesOf g store level) × (walkFrom g store asked level (page .0) ≡ walkFrom g store asked 1 (page₀ .0))
+Inv-loop store g plan asked trail₀ page₀ level₀ trail page level = (1 ≤ level) × (page .0 < pagesOf g store level) × (notedFrom g store asked trail level (page .0) ≡ notedFrom g store asked trail₀ 1 (page₀ .0)) × (length trail ≡ length trail₀)
 
 abbrev μ-loop : tie.MeasureT-loop
-μ-loop store g plan asked page₀ level₀ page level = g .levels - level
+μ-loop store g plan asked trail₀ page₀ level₀ trail page level = g .levels - level
 
 loop-holds : tie.Need-loop-holds Inv-loop μ-loop
-loop-holds c = (omega arith, c .before .pre .1 .1, refl)
+loop-holds c = (omega arith, c .before .before .pre .1 .1, refl, refl)
 
-page-step-requires : tie.Need-page-step-requires Inv-loop μ-loop
-page-step-requires c κs =
-    let pre = c .before .before .before .before .pre in
+page-look-requires : tie.Need-page-look-requires Inv-loop μ-loop
+page-look-requires c κs =
+    let pre = c .before .before .before .before .before .pre in
     let loop = c .before .before .loop in
-    let a = c .before .before .before .before .args in
+    let a = c .before .before .before .before .before .args in
     let i = loop .inv in
-    let level = loop .level in
     let lent = pre .0 in
-    let fits = pages-most (a .g) (a .store .now) (pre .1 .0) level (i .0) (omega (arith, c .if1 .taken, lent .in-range .levels-most)) (c .if1 .taken) in
+    let fits = pages-most (a .g) (a .store .now) (pre .1 .0) (loop .level) (i .0) (omega (arith, c .if1 .taken, lent .in-range .levels-most)) (c .if1 .taken) in
     (lent, (i .0, c .if1 .taken, omega (arith, i .1, fits)))
 
-enum-known-held : tie.Need-enum-known-held Inv-loop μ-loop
-enum-known-held c = search needs
+note-requires : tie.Need-note-requires Inv-loop μ-loop
+note-requires c κs =
+    let a = c .before .before .before .before .before .before .before .args in
+    let pre = c .before .before .before .before .before .before .before .pre in
+    let loop = c .before .before .before .before .loop in
+    let look = c .before .page-look in (
+      omega (arith, c .before .before .if1 .taken, pre .0 .in-range .levels-most),
+      follow-small (a .g) (a .store .now) (pre .0 .in-range) (pre .1 .0) (loop .level + 1) (look .result .step) (omega arith) (look .ensures .1 .0),
+    )
+
+enum-known-step : tie.Need-enum-known-step Inv-loop μ-loop
+enum-known-step c = search needs
+
+same-length : tie.Need-same-length Inv-loop μ-loop
+same-length c = ap length (c .before .before .before .before .before .note .ensures) ∙ length-note _ _ _ ∙ c .before .before .before .before .before .before .before .before .before .before .loop .inv .3
 
 returns : tie.Need-returns Inv-loop μ-loop
 returns c =
-    let loop = c .before .before .before .before .before .before .loop in
-    let a = c .before .before .before .before .before .before .before .before .args in
-    let i = loop .inv in
-    let level = loop .level in
-    let e = sym (c .before .held .given .1) ∙ c .before .before .before .page-step .ensures .0 in
-    sym (sym (i .2) ∙ walk-into (a .g) (a .store .now) (a .asked) level (loop .page .0) (i .0) (c .before .before .before .before .if1 .taken) ∙
-    ap (λ (s : Step). walkOn (a .g) (a .store .now) (a .asked) (a .g .levels - (level + 1)) level s) (sym e) ∙
-    walk-decided (a .g) (a .store .now) (a .asked) _ level _)
+    let a = c .before .before .before .before .before .before .before .before .before .before .before .before .before .args in
+    let loop = c .before .before .before .before .before .before .before .before .before .before .loop in
+    let look = c .before .before .before .before .before .before .before .page-look in
+    let on = level-noted (a .g) (a .store .now) (a .asked) (loop .trail) _ (loop .page) (look .result) (loop .level) (loop .inv .0) (c .before .before .before .before .before .before .before .before .if1 .taken) (c .before .before .before .before .before .note .ensures) (look .ensures .0) (look .ensures .1 .1) ∙ loop .inv .2 in
+    let ends = ends-decided (a .g) (a .store .now) (a .asked) _ (loop .level) (look .result .step) on (c .before .step .given .1) in
+    (ap (λ (n : Noted). n .outcome) ends, ap (λ (n : Noted). n .words) ends)
 
-enum-known-next : tie.Need-enum-known-next Inv-loop μ-loop
-enum-known-next c = search needs
+enum-known-step-2 : tie.Need-enum-known-step-2 Inv-loop μ-loop
+enum-known-step-2 c = search needs
 
 add-level : tie.Need-add-level Inv-loop μ-loop
-add-level c = omega (arith, c .before .before .before .before .if1 .taken, c .before .before .before .before .before .before .before .before .pre .0 .in-range .levels-most)
+add-level c = search needs
 
 loop-less : tie.Need-loop-less Inv-loop μ-loop
 loop-less c = search needs
 
 loop-again : tie.Need-loop-again Inv-loop μ-loop
 loop-again c =
-    let loop = c .before .before .before .before .before .before .loop in
-    let page-step = c .before .before .before .page-step in
-    let a = c .before .before .before .before .before .before .before .before .args in
-    let i = loop .inv in
-    let level = loop .level in
-    let e = sym (c .before .next .given .1) ∙ page-step .ensures .0 in (
+    let a = c .before .before .before .before .before .before .before .before .before .before .before .before .before .args in
+    let loop = c .before .before .before .before .before .before .before .before .before .before .loop in
+    let look = c .before .before .before .before .before .before .before .page-look in
+    let on = level-noted (a .g) (a .store .now) (a .asked) (loop .trail) _ (loop .page) (look .result) (loop .level) (loop .inv .0) (c .before .before .before .before .before .before .before .before .if1 .taken) (c .before .before .before .before .before .note .ensures) (look .ensures .0) (look .ensures .1 .1) ∙ loop .inv .2 in (
       omega arith,
-      rw (c .before .next .given .1) at (page-step .ensures .1),
-      sym (walk-follows (a .g) (a .store .now) (a .asked) level _) ∙
-          ap (λ (s : Step). walkOn (a .g) (a .store .now) (a .asked) (a .g .levels - (level + 1)) level s) e ∙
-          sym (walk-into (a .g) (a .store .now) (a .asked) level (loop .page .0) (i .0) (c .before .before .before .before .if1 .taken)) ∙ i .2,
+      rw (c .before .step2 .given .1) at (look .ensures .1 .0),
+      goes-on (a .g) (a .store .now) (a .asked) _ (loop .level) (look .result .step) on (c .before .step2 .given .1),
+      ap length (c .before .before .before .before .before .note .ensures) ∙ length-note _ _ _ ∙ loop .inv .3,
     )
 
 enum-told : tie.Need-enum-told Inv-loop μ-loop
 enum-told c = search needs
 
+same-length-2 : tie.Need-same-length-2 Inv-loop μ-loop
+same-length-2 c = ap length (c .before .before .before .before .note .ensures) ∙ length-note _ _ _ ∙ c .before .before .before .before .before .before .before .before .before .loop .inv .3
+
 returns-2 : tie.Need-returns-2 Inv-loop μ-loop
 returns-2 c =
-    let loop = c .before .before .before .before .before .loop in
-    let a = c .before .before .before .before .before .before .before .args in
-    let i = loop .inv in
-    let level = loop .level in
-    let e = sym (c .enum-told .given .1) ∙ c .before .before .page-step .ensures .0 in
-    sym (sym (i .2) ∙ walk-into (a .g) (a .store .now) (a .asked) level (loop .page .0) (i .0) (c .before .before .before .if1 .taken) ∙
-    ap (λ (s : Step). walkOn (a .g) (a .store .now) (a .asked) (a .g .levels - (level + 1)) level s) (sym e) ∙
-    walk-nothing (a .g) (a .store .now) (a .asked) _ level)
+    let a = c .before .before .before .before .before .before .before .before .before .before .before .before .args in
+    let loop = c .before .before .before .before .before .before .before .before .before .loop in
+    let look = c .before .before .before .before .before .before .page-look in
+    let on = level-noted (a .g) (a .store .now) (a .asked) (loop .trail) _ (loop .page) (look .result) (loop .level) (loop .inv .0) (c .before .before .before .before .before .before .before .if1 .taken) (c .before .before .before .before .note .ensures) (look .ensures .0) (look .ensures .1 .1) ∙ loop .inv .2 in
+    let ends = ends-nothing (a .g) (a .store .now) (a .asked) _ (loop .level) (look .result .step) on (c .enum-told .given .1) in
+    (ap (λ (n : Noted). n .outcome) ends, ap (λ (n : Noted). n .words) ends)
 
 enum-told-2 : tie.Need-enum-told-2 Inv-loop μ-loop
 enum-told-2 c = search needs
 
+same-length-3 : tie.Need-same-length-3 Inv-loop μ-loop
+same-length-3 c = ap length (c .before .before .before .before .note .ensures) ∙ length-note _ _ _ ∙ c .before .before .before .before .before .before .before .before .before .loop .inv .3
+
 returns-3 : tie.Need-returns-3 Inv-loop μ-loop
 returns-3 c =
-    let loop = c .before .before .before .before .before .loop in
-    let a = c .before .before .before .before .before .before .before .args in
-    let i = loop .inv in
-    let level = loop .level in
-    let e = sym (c .enum-told2 .given .1) ∙ c .before .before .page-step .ensures .0 in
-    sym (sym (i .2) ∙ walk-into (a .g) (a .store .now) (a .asked) level (loop .page .0) (i .0) (c .before .before .before .if1 .taken) ∙
-    ap (λ (s : Step). walkOn (a .g) (a .store .now) (a .asked) (a .g .levels - (level + 1)) level s) (sym e) ∙
-    walk-broken (a .g) (a .store .now) (a .asked) _ level)
+    let a = c .before .before .before .before .before .before .before .before .before .before .before .before .args in
+    let loop = c .before .before .before .before .before .before .before .before .before .loop in
+    let look = c .before .before .before .before .before .before .page-look in
+    let on = level-noted (a .g) (a .store .now) (a .asked) (loop .trail) _ (loop .page) (look .result) (loop .level) (loop .inv .0) (c .before .before .before .before .before .before .before .if1 .taken) (c .before .before .before .before .note .ensures) (look .ensures .0) (look .ensures .1 .1) ∙ loop .inv .2 in
+    let ends = ends-broken (a .g) (a .store .now) (a .asked) _ (loop .level) (look .result .step) on (c .enum-told2 .given .1) in
+    (ap (λ (n : Noted). n .outcome) ends, ap (λ (n : Noted). n .words) ends)
+
+same-length-4 : tie.Need-same-length-4 Inv-loop μ-loop
+same-length-4 c = c .before .before .loop .inv .3
 
 returns-4 : tie.Need-returns-4 Inv-loop μ-loop
 returns-4 c =
+    let a = c .before .before .before .before .before .args in
     let loop = c .before .before .loop in
-    let a = c .before .before .before .before .args in
-    let i = loop .inv in
-    sym (sym (i .2) ∙ walk-ends (a .g) (a .store .now) (a .asked) (loop .level) (loop .page .0) (omega (arith, c .if1 .left)))
+    let ends = ends-past (a .g) (a .store .now) (a .asked) (loop .trail) (loop .level) (loop .page .0) (omega (arith, c .if1 .left)) (loop .inv .2) in
+    (ap (λ (n : Noted). n .outcome) ends, ap (λ (n : Noted). n .words) ends)
 
 pub walk-levels-spec : {M : Type 1} → statement M
 walk-levels-spec =
@@ -112,15 +124,20 @@ walk-levels-spec =
     Inv-loop
     μ-loop
     loop-holds
-    page-step-requires
-    enum-known-held
+    page-look-requires
+    note-requires
+    enum-known-step
+    same-length
     returns
-    enum-known-next
+    enum-known-step-2
     add-level
     loop-less
     loop-again
     enum-told
+    same-length-2
     returns-2
     enum-told-2
+    same-length-3
     returns-3
+    same-length-4
     returns-4)

@@ -1,4 +1,4 @@
--- `page_step` gives what a page tells: its tests by `page-broken` and `page-first-broken`, its answer by `page-bottom` and `page-tells`.
+-- `page_look` gives what a page tells: its tests by `page-broken` and `page-first-broken`, its answer by `page-bottom` and `page-tells`.
 -- Assumes nothing.
 use Prim.Native.Nat.{suc, _+_, _<_}
 use native.Mathlib.Numerals.{add-one}
@@ -10,8 +10,8 @@ use Rattle.walk.specs.Step.{bottom-within}
 use Rattle.walk.specs.Read.{page-broken, page-reach-small, page-bottom, page-first-broken, page-first, page-some, page-tells, page-within}
 use native.Mathlib.Omega.{arith}
 use borrow.Author.Needs.{needs}
-use Rattle.walk.proofs.page_step.Statement.{statement}
-use Rattle.walk.proofs.page_step.Tie as tie
+use Rattle.walk.proofs.page_look.Statement.{statement}
+use Rattle.walk.proofs.page_look.Tie as tie
 
 page-scan-requires : tie.Need-page-scan-requires
 page-scan-requires c κs = search needs
@@ -20,7 +20,7 @@ returns : tie.Need-returns
 returns c =
     let a = c .before .before .before .before .args in
     let mark = c .before .before .page-scan .ensures .1 in
-    (page-broken (a .g) (a .store .now) (a .asked) (a .level) (a .page .0) (told-no _ _ mark (c .if1 .taken)), tt)
+    (page-broken (a .g) (a .store .now) (a .asked) (a .level) (a .page .0) (told-no _ _ mark (c .if1 .taken)), (tt, ap (λ (s : PageRead). s .reach) (c .before .before .page-scan .ensures .0)))
 
 page-place-requires : tie.Need-page-place-requires
 page-place-requires c κs = search needs
@@ -46,7 +46,7 @@ returns-2 c =
     let formed = told-past _ _ (scan .1) (c .before .before .before .before .if1 .left) in
     let b : a .g .levels ≡ suc (a .level) = omega (arith, c .before .if2 .taken) in (
       c .tell-bottom .ensures ∙ rw (scan .0, c .before .before .before .page-place .ensures .0) (page-bottom (a .g) (a .store .now) (a .asked) (a .level) (a .page .0) formed b),
-      rw (c .tell-bottom .ensures) (bottom-within _ _ _ _ _),
+      (rw (c .tell-bottom .ensures) (bottom-within _ _ _ _ _), ap (λ (s : PageRead). s .reach) (scan .0)),
     )
 
 is-first-right-requires : tie.Need-is-first-right-requires
@@ -59,7 +59,7 @@ returns-3 c =
     let d : a .level + 1 ≢ a .g .levels = c .before .before .if2 .left in
     let above : suc (a .level) < a .g .levels = omega (arith, c .before .before .before .before .before .before .before .before .before .pre .1 .1) in
     let first = rw (c .before .before .before .before .page-place .ensures .0) at (c .before .is-first-right .ensures) in
-    (page-first-broken (a .g) (a .store .now) (a .asked) (a .level) (a .page .0) formed above (told-no _ _ first (c .if3 .taken)), tt)
+    (page-first-broken (a .g) (a .store .now) (a .asked) (a .level) (a .page .0) formed above (told-no _ _ first (c .if3 .taken)), (tt, ap (λ (s : PageRead). s .reach) (c .before .before .before .before .before .before .before .page-scan .ensures .0)))
 
 tell-above-requires : tie.Need-tell-above-requires
 tell-above-requires c κs =
@@ -88,11 +88,14 @@ returns-4 c =
     let above : suc (a .level) < a .g .levels = omega (arith, c .before .before .before .before .before .before .before .before .before .before .pre .1 .1) in
     let first = told-past _ _ (rw (place .0) at (c .before .before .is-first-right .ensures)) (c .before .if3 .left) in (
       c .tell-above .ensures ∙ rw (scan .0, place .0) (page-tells (a .g) (a .store .now) (a .asked) (a .level) (a .page .0) formed above first),
-      rw (c .tell-above .ensures, scan .0, place .0, add-one (a .level)) (page-within (a .g) (a .store .now) (a .asked) (a .level) (a .page .0) formed above first),
+      (
+        rw (c .tell-above .ensures, scan .0, place .0, add-one (a .level)) (page-within (a .g) (a .store .now) (a .asked) (a .level) (a .page .0) formed above first),
+        ap (λ (s : PageRead). s .reach) (scan .0),
+      ),
     )
 
-pub page-step-spec : {M : Type 1} → statement M
-page-step-spec =
+pub page-look-spec : {M : Type 1} → statement M
+page-look-spec =
     tie.close
     (tie.spec
     page-scan-requires

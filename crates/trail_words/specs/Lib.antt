@@ -1,0 +1,2 @@
+-- Where the words of a trail stand.
+pub mod Places

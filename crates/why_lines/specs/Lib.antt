@@ -1,0 +1,3 @@
+-- The lines that tell why (Lines), and their texts by the way that the code takes (Parts).
+pub mod Lines
+pub mod Parts
