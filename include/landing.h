@@ -40,7 +40,7 @@
  *   - Every call returns. It reads and writes the memory that it is handed and its own stack, and nothing else.
  *   - There is no heap, no global variable and no system call. Of the C library it may call memcpy, memmove and memset, and nothing else.
  *   - Calls are reentrant. Calls on different stores may run at once, in threads or in interrupts, and so may calls that only read one store.
- *   - The stack that a call takes does not depend on the store's size: see STACK.
+ *   - A call takes no more of the stack than STACK says, whatever the store and the numbers.
  *   - A call that replies other than 0 has changed no word of store, work and list.
  *   - The same words and the same numbers give the same result, word for word.
  *
@@ -70,13 +70,21 @@
  * word can leave a store sound, as another index: no test here replaces a checksum.
  *
  *
- * STACK. Measured, not proved, for x86-64 as `rt staticlib landing` builds it, in bytes below the caller's frame:
+ * STACK. landing_ask and landing_why take at most 512 bytes below the caller's frame, and every other call at most 2048. This holds for
+ * x86-64 as `rt staticlib landing` builds the library. It is not proved. A test holds each call to its bound twice: by the machine code of the
+ * library, and by what calls on painted stacks reached. Of these bytes the library takes, the return address of the call included:
  *
- *     landing_put, landing_drop   1640     in a merge from level 0 down to level 3; without one about half of it
- *     landing_list                1344
- *     landing_check               1024
- *     landing_ask                  368
- *     landing_format               120
+ *     landing_put, landing_drop                 1592     in a merge from level 0 down to level 3; without one about half of it
+ *     landing_list                              1296
+ *     landing_check                             1008
+ *     landing_ask                                408
+ *     landing_why                                392
+ *     landing_format                             104
+ *     landing_store_words, landing_work_words      8
+ *
+ * landing_format, landing_put and landing_drop call memset, the only function of the C library that this build calls. What memset takes below
+ * its own return address is not in the bounds. That of glibc takes nothing; but a dynamic linker that binds it at its first call, and not when
+ * the program starts, takes some 3 KiB of the stack for that.
  */
 #ifndef LANDING_H
 #define LANDING_H

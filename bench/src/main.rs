@@ -3,6 +3,7 @@
 use std::path::{Path, PathBuf};
 
 use second::geometry::Geometry;
+use stack_gate::computed::computed;
 
 use bench::report::{Measured, Report};
 use bench::stack::{self, Depths};
@@ -19,20 +20,19 @@ const MARK: &str = "<!-- measured: written by bench/run -->\n";
 /// Runs the benchmark.
 fn main() -> Result<(), String> {
     let root = Path::new(env!("CARGO_MANIFEST_DIR")).join("..");
-    let mut depths = Depths {
-        ours: [0; 6],
-        peers: [0; 6],
-    };
+    let mut depths = Depths::default();
     let mut measured = Vec::new();
     for text in GEOMETRIES {
         eprintln!("measuring {text}");
         measured.push(measure(text.parse()?, &mut depths));
     }
     let archive = root.join("target/staticlib/liblanding.a");
+    let computed = computed(&archive)?;
     let archive = std::fs::read(&archive).map_err(|e| format!("{}: {e}", archive.display()))?;
     let report = Report {
         measured,
         depths,
+        computed,
         code_bytes: size::code_bytes(&archive)
             .ok_or("liblanding.a: not an archive of ELF objects")?,
     };

@@ -1,6 +1,8 @@
 //! What was measured, told in tables, and the targets.
 
 use second::geometry::Geometry;
+use stack_gate::calls::{bound, OTHER, QUESTION};
+use stack_gate::computed::Computed;
 
 use crate::calls::CallTimes;
 use crate::merges::{MergeTimes, Worst};
@@ -23,6 +25,8 @@ pub struct Measured {
 pub struct Report {
     pub measured: Vec<Measured>,
     pub depths: Depths,
+    /// The deepest stack of each call, from the library's machine code.
+    pub computed: Vec<Computed>,
     pub code_bytes: u64,
 }
 
@@ -71,14 +75,9 @@ impl Report {
             self.ratios(|times| times.held.times.ratio()),
             self.ratios(|times| times.not_held.times.ratio()),
         ];
-        let others = |at: &usize| CALLS[*at] != "ask";
-        let deepest = (0..CALLS.len())
-            .filter(others)
-            .map(|at| self.depths.ours[at]);
-        let ask = CALLS.iter().position(|call| *call == "ask").unwrap_or(0);
         let largest = self.measured.iter().max_by_key(|one| one.geometry.most());
         let fewer = largest.map_or(0.0, |one| one.puts.fewer());
-        vec![
+        let mut targets = vec![
             at_most("ask, over the peer", 1.0, greatest(asks.concat())),
             at_most(
                 "put or drop without a merge, over the peer",
@@ -106,13 +105,28 @@ impl Report {
                 worst: fewer,
                 at_least: true,
             },
-            at_most("stack of ask, bytes", 1024.0, self.depths.ours[ask] as f64),
-            at_most(
-                "stack of every other call, bytes",
-                2048.0,
-                deepest.max().unwrap_or(0) as f64,
-            ),
-        ]
+        ];
+        targets.extend(self.stack_targets());
+        targets
+    }
+
+    /// The bounds of the stack gate, and the deepest computed stack of the calls that each is for.
+    fn stack_targets(&self) -> [Target; 2] {
+        let names = [
+            ("stack of ask and why, bytes", QUESTION),
+            ("stack of every other call, bytes", OTHER),
+        ];
+        names.map(|(name, most)| {
+            let computed = self.computed.iter();
+            let held = computed.filter(|call| bound(call.name) == Some(most));
+            let deepest = held.map(|call| call.bytes).max().unwrap_or(0);
+            Target {
+                name,
+                limit: most as f64,
+                worst: deepest as f64,
+                at_least: false,
+            }
+        })
     }
 
     /// All tables, each below its heading.
@@ -319,12 +333,16 @@ impl Report {
 
     /// The deepest stack of each call.
     fn stack_table(&self) -> Table {
-        let mut table = Table::new(&["call", "bytes", "peer's"]);
+        let mut table = Table::new(&["call", "painted", "computed", "at most", "peer's painted"]);
         for (at, call) in CALLS.iter().enumerate() {
+            let computed = self.computed.iter().find(|one| one.name == *call);
+            let bytes = |bytes: Option<u64>| bytes.map_or("-".to_string(), |n| n.to_string());
             table.add(vec![
                 call.to_string(),
                 self.depths.ours[at].to_string(),
-                self.depths.peers[at].to_string(),
+                bytes(computed.map(|one| one.bytes)),
+                bytes(bound(call)),
+                bytes(Some(self.depths.peers[at] as u64).filter(|n| *n > 0)),
             ]);
         }
         table

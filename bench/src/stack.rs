@@ -18,13 +18,14 @@ const WORDS: usize = 1 << 15;
 /// What an unused word holds.
 const PAINT: u64 = 0x5AA5_C33C_0FF0_9669;
 
-/// The calls that are measured.
-pub const CALLS: [&str; 6] = ["format", "put", "drop", "ask", "list", "check"];
+/// The calls that are measured. The peer has no why, which stands last.
+pub const CALLS: [&str; 7] = ["format", "put", "drop", "ask", "list", "check", "why"];
 
-/// The deepest stack of each call in bytes.
+/// The deepest stack of each call in bytes. What the peer does not have is 0.
+#[derive(Default)]
 pub struct Depths {
-    pub ours: [usize; 6],
-    pub peers: [usize; 6],
+    pub ours: [usize; 7],
+    pub peers: [usize; 7],
 }
 
 impl Depths {
@@ -92,13 +93,18 @@ impl Painted {
 /// and a check.
 pub fn measure(geometry: Geometry, trace: &[Update]) -> Depths {
     Depths {
-        ours: depths(geometry, trace, OURS),
-        peers: depths(geometry, trace, PEERS),
+        ours: depths(geometry, trace, OURS, Some(our_why)),
+        peers: depths(geometry, trace, PEERS, None),
     }
 }
 
-/// The deepest stack of each of six entries.
-fn depths(geometry: Geometry, trace: &[Update], entries: [Entry; 6]) -> [usize; 6] {
+/// The deepest stack of each of six entries, and of a why if there is one.
+fn depths(
+    geometry: Geometry,
+    trace: &[Update],
+    entries: [Entry; 6],
+    why: Option<Entry>,
+) -> [usize; 7] {
     let [format, put, drop, ask, list, check] = entries;
     let mut stacks = CALLS.map(|_| Painted::new());
     let mut request = Request {
@@ -120,6 +126,9 @@ fn depths(geometry: Geometry, trace: &[Update], entries: [Entry; 6]) -> [usize; 
             stacks[5].call(check, &mut request);
         }
         stacks[3].call(ask, &mut request);
+        if let Some(why) = why {
+            stacks[6].call(why, &mut request);
+        }
     }
     stacks.each_ref().map(Painted::depth)
 }
@@ -178,6 +187,11 @@ macro_rules! entries {
             $index::check(&request.lent.store, &mut [0; 1]);
         }
     };
+}
+
+unsafe extern "C" fn our_why(request: *mut Request) {
+    let Request { lent, pair, .. } = &mut *request;
+    library::why(&lent.store, pair.0, pair.1, &mut [0; 22]);
 }
 
 entries!(library: our_format our_put our_drop our_ask our_list our_check);
