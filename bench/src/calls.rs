@@ -45,7 +45,7 @@ fn asks(filled: &Filled, asked: &[Pair], held: bool) -> AskTimes {
     let set: BTreeSet<Pair> = filled.held.iter().copied().collect();
     let vec: Vec<Pair> = set.iter().copied().collect();
     for pair in asked {
-        let (mut ours, mut peers) = ([0; 2], [0; 2]);
+        let (mut ours, mut peers) = ([0; 3], [0; 3]);
         Library.ask(store, *pair, &mut ours);
         Peer.ask(store, *pair, &mut peers);
         let same = ours == peers && ours[0] == u32::from(held) && set.contains(pair) == held;
@@ -53,7 +53,7 @@ fn asks(filled: &Filled, asked: &[Pair], held: bool) -> AskTimes {
     }
     let next = |pairs: &mut Cycle<Iter<Pair>>| *pairs.next().expect("a pair");
     let [mut one, mut two, mut three, mut four] = [(); 4].map(|()| asked.iter().cycle());
-    let (mut out, mut same) = ([0; 2], [0; 2]);
+    let (mut out, mut same) = ([0; 3], [0; 3]);
     let [ours, peers, set, vec] = fastest([
         &mut || {
             black_box(Library.ask(store, next(&mut one), &mut out));
@@ -104,7 +104,7 @@ fn edits(filled: &Filled) -> Times {
 /// A check of the whole store.
 fn checks(filled: &Filled) -> Times {
     let store = &filled.lent.store;
-    let (mut ours, mut peers) = ([0; 1], [0; 1]);
+    let (mut ours, mut peers) = ([0; 3], [0; 3]);
     let times = side_by_side(
         || assert_eq!(Library.check(store, &mut ours), 0),
         || assert_eq!(Peer.check(store, &mut peers), 0),
@@ -119,8 +119,8 @@ fn lists(filled: &Filled) -> Times {
     let (first, last) = ((0, 0), (u32::MAX, u32::MAX));
     let mut ours = vec![0; 2 * filled.held.len()];
     let mut peers = ours.clone();
-    let mut out = [0; 2];
-    let mut same = [0; 2];
+    let mut out = [0; 3];
+    let mut same = [0; 3];
     let times = side_by_side(
         || assert_eq!(Library.list(store, first, last, &mut ours, &mut out), 0),
         || assert_eq!(Peer.list(store, first, last, &mut peers, &mut same), 0),

@@ -12,16 +12,16 @@ pub type Pair = (u32, u32);
 pub trait Index {
     fn put(&self, store: &mut [u32], work: &mut [u32], pair: Pair, out: &mut [u32; 7]) -> u32;
     fn drop(&self, store: &mut [u32], work: &mut [u32], pair: Pair, out: &mut [u32; 7]) -> u32;
-    fn ask(&self, store: &[u32], pair: Pair, out: &mut [u32; 2]) -> u32;
+    fn ask(&self, store: &[u32], pair: Pair, out: &mut [u32; 3]) -> u32;
     fn list(
         &self,
         store: &[u32],
         first: Pair,
         last: Pair,
         slice: &mut [u32],
-        out: &mut [u32; 2],
+        out: &mut [u32; 3],
     ) -> u32;
-    fn check(&self, store: &[u32], out: &mut [u32; 1]) -> u32;
+    fn check(&self, store: &[u32], out: &mut [u32; 3]) -> u32;
 }
 
 /// The proved library, through its C interface.
@@ -39,7 +39,7 @@ impl Index for Library {
         library::drop(store, work, pair.0, pair.1, out)
     }
 
-    fn ask(&self, store: &[u32], pair: Pair, out: &mut [u32; 2]) -> u32 {
+    fn ask(&self, store: &[u32], pair: Pair, out: &mut [u32; 3]) -> u32 {
         library::ask(store, pair.0, pair.1, out)
     }
 
@@ -49,12 +49,12 @@ impl Index for Library {
         first: Pair,
         last: Pair,
         slice: &mut [u32],
-        out: &mut [u32; 2],
+        out: &mut [u32; 3],
     ) -> u32 {
         library::list(store, first, last, slice, out)
     }
 
-    fn check(&self, store: &[u32], out: &mut [u32; 1]) -> u32 {
+    fn check(&self, store: &[u32], out: &mut [u32; 3]) -> u32 {
         library::check(store, out)
     }
 }
@@ -68,7 +68,7 @@ impl Index for Peer {
         peer::drop(store, work, pair.0, pair.1, out)
     }
 
-    fn ask(&self, store: &[u32], pair: Pair, out: &mut [u32; 2]) -> u32 {
+    fn ask(&self, store: &[u32], pair: Pair, out: &mut [u32; 3]) -> u32 {
         peer::ask(store, pair.0, pair.1, out)
     }
 
@@ -78,12 +78,12 @@ impl Index for Peer {
         first: Pair,
         last: Pair,
         slice: &mut [u32],
-        out: &mut [u32; 2],
+        out: &mut [u32; 3],
     ) -> u32 {
         peer::list(store, first, last, slice, out)
     }
 
-    fn check(&self, store: &[u32], out: &mut [u32; 1]) -> u32 {
+    fn check(&self, store: &[u32], out: &mut [u32; 3]) -> u32 {
         peer::check(store, out)
     }
 }

@@ -174,17 +174,17 @@ macro_rules! entries {
 
         unsafe extern "C" fn $ask(request: *mut Request) {
             let Request { lent, pair, .. } = &mut *request;
-            $index::ask(&lent.store, pair.0, pair.1, &mut [0; 2]);
+            $index::ask(&lent.store, pair.0, pair.1, &mut [0; 3]);
         }
 
         unsafe extern "C" fn $list(request: *mut Request) {
             let Request { lent, slice, .. } = &mut *request;
-            $index::list(&lent.store, ALL.0, ALL.1, slice, &mut [0; 2]);
+            $index::list(&lent.store, ALL.0, ALL.1, slice, &mut [0; 3]);
         }
 
         unsafe extern "C" fn $check(request: *mut Request) {
             let request = &mut *request;
-            $index::check(&request.lent.store, &mut [0; 1]);
+            $index::check(&request.lent.store, &mut [0; 3]);
         }
     };
 }

@@ -14,11 +14,16 @@ fn peer_answer(store: &mut [u32], call: Call) -> (u32, Vec<u32>, Vec<u32>, Vec<u
     let (mut work, mut slice) = (Vec::new(), Vec::new());
     let mut out = vec![7; 7];
     let number = match call {
-        // The peer has no why. Its ask gives the number and the first two values of one.
+        // The peer has no why. Its ask gives the number, the place of a refusal, and the first two
+        // values of an accepted one.
         Call::Ask(pair) | Call::Why(pair) => {
-            out.truncate(2);
-            let out = out.first_chunk_mut().expect("two");
-            peer::ask(store, pair.badge, pair.floor, out)
+            out.truncate(3);
+            let three = out.first_chunk_mut().expect("three");
+            let number = peer::ask(store, pair.badge, pair.floor, three);
+            if number == 0 && matches!(call, Call::Why(_)) {
+                out.truncate(2);
+            }
+            number
         }
         Call::Put(pair, length) => {
             work = numbered(0, length);
@@ -31,15 +36,15 @@ fn peer_answer(store: &mut [u32], call: Call) -> (u32, Vec<u32>, Vec<u32>, Vec<u
             peer::drop(store, &mut work, pair.badge, pair.floor, out)
         }
         Call::List(first, last, length) => {
-            out.truncate(2);
+            out.truncate(3);
             slice = numbered(1000, length);
-            let out = out.first_chunk_mut().expect("two");
+            let out = out.first_chunk_mut().expect("three");
             let two = |pair: second::slot::Pair| (pair.badge, pair.floor);
             peer::list(store, two(first), two(last), &mut slice, out)
         }
         Call::Check => {
-            out.truncate(1);
-            peer::check(store, out.first_chunk_mut().expect("one"))
+            out.truncate(3);
+            peer::check(store, out.first_chunk_mut().expect("three"))
         }
     };
     (number, out, work, slice)

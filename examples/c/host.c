@@ -4,8 +4,8 @@
  * The chip keeps each word of the store as four bytes, lowest byte first. The host writes the whole store to it after each accepted put or
  * drop, and reads it back after a restart. Power-cut recovery is no part of the index: after a cut inside a call the chip still holds the
  * store as it was last written, and the controller reloads that. A cut while the chip is being written is not dealt with here. At the end a
- * bit of the store is flipped, and each call that looks at it tells the level. An ask that is answered no is followed by a why, which shows the
- * way to the entry that decided, or that there is none.
+ * bit of the store is flipped in one place after the other, and each call that looks there tells what is wrong, and where. An ask that is
+ * answered no is followed by a why, which shows the way to the entry that decided, or that there is none.
  */
 #include "landing.h"
 
@@ -47,16 +47,44 @@ static void read_chip(void)
         store[i / 4] |= (uint32_t)bytes[i] << 8 * (i % 4);
 }
 
+/* Prints what is wrong with a damaged store, and where. */
+static void print_damage(uint32_t reply, uint32_t level, uint32_t page, uint32_t slot)
+{
+    switch (reply) {
+    case LANDING_DIRECTORY:
+        printf("the directory is wrong");
+        break;
+    case LANDING_HEAD:
+        printf("the head is wrong at slot %u", slot);
+        break;
+    case LANDING_PAGE:
+        printf("page %u of level %u is wrong at slot %u", page, level, slot);
+        break;
+    case LANDING_LEVEL:
+        printf("level %u is not as it is written, at slot %u of page %u", level, slot, page);
+        break;
+    case LANDING_KINDS:
+        if (level == 0 && page == 0 && slot == 0)
+            printf("the number of pairs is wrong");
+        else
+            printf("an entry in level %u, page %u, slot %u does not fit the levels below", level, page, slot);
+    }
+}
+
 /* Prints a reply, and a refusal's meaning. Only where the call is done does out hold the call's own values. */
 static bool done(uint32_t reply, const uint32_t *out)
 {
-    static const char *const meanings[] = {"", "no geometry in its ranges", "held already", "not held", "full", "a wrong length", ""};
+    static const char *const meanings[] = {"", "no geometry in its ranges", "held already", "not held", "full", "a wrong length"};
     printf("reply %u", reply);
-    if (reply == LANDING_FAULT)
-        printf(", level %u is faulty\n", out[0]);
-    else if (reply != LANDING_DONE)
-        printf(", %s\n", meanings[reply]);
-    return reply == LANDING_DONE;
+    if (reply == LANDING_DONE)
+        return true;
+    printf(", ");
+    if (reply >= LANDING_DIRECTORY)
+        print_damage(reply, out[0], out[1], out[2]);
+    else
+        printf("%s", meanings[reply]);
+    puts("");
+    return false;
 }
 
 static void changed(uint32_t reply, const uint32_t out[7])
@@ -108,7 +136,7 @@ static void why(uint32_t badge, uint32_t floor)
 
 static void ask(uint32_t badge, uint32_t floor)
 {
-    uint32_t out[2];
+    uint32_t out[3];
     printf("ask %u %u: ", badge, floor);
     if (!done(landing_ask(store, STORE_WORDS, badge, floor, out), out))
         return;
@@ -122,7 +150,7 @@ static void ask(uint32_t badge, uint32_t floor)
 
 static void list(void)
 {
-    uint32_t words[LIST_WORDS], out[2];
+    uint32_t words[LIST_WORDS], out[3];
     printf("list: ");
     if (!done(landing_list(store, STORE_WORDS, 0, 0, UINT32_MAX, UINT32_MAX, words, LIST_WORDS, out), out))
         return;
@@ -133,10 +161,22 @@ static void list(void)
 
 static void check(void)
 {
-    uint32_t out[1];
+    uint32_t out[3];
     printf("check: ");
     if (done(landing_check(store, STORE_WORDS, out), out))
         puts(", sound");
+}
+
+/* Flips a bit of a word of the store, makes calls, and reads the store back from the chip. None of these calls changes it. */
+static void flip(const char *where, size_t word, uint32_t bit)
+{
+    printf("-- a bit turns over in %s\n", where);
+    store[word] ^= 1u << bit;
+    check();
+    list();
+    ask(7, 1);
+    drop(7, 3);
+    read_chip();
 }
 
 int main(int argc, char **argv)
@@ -171,11 +211,11 @@ int main(int argc, char **argv)
     ask(7, 2);
     check();
 
-    puts("-- a bit turns over in level 1");
-    store[28] ^= 1u << 31;
-    check();
-    ask(7, 1);
-    drop(9, 1);
-    list();
+    flip("the directory: word 7", 7, 0);
+    flip("the head: the tag of slot 1", 14, 2);
+    flip("level 1: the badge of slot 1", 28, 31);
+    flip("level 1: slot 5, which is not used", 40, 0);
+    flip("the head: the kind of slot 1", 14, 0);
+    flip("the directory: the number of pairs", 3, 0);
     return 0;
 }

@@ -1,6 +1,8 @@
 //! Another program beside the right build: the same calls on the same words, and every word of
 //! store, work area, list and `out` compared after every call.
 
+use std::collections::BTreeMap;
+
 use crate::call::{numbered, perform, Call};
 use crate::calls::{self, Reply, WHY_VALUES};
 use crate::damage::damaged;
@@ -66,9 +68,8 @@ impl Program for Variant {
 pub fn out_words(call: Call) -> usize {
     match call {
         Call::Put(..) | Call::Drop(..) => 7,
-        Call::Ask(_) | Call::List(..) => 2,
         Call::Why(_) => WHY_VALUES,
-        Call::Check => 1,
+        Call::Ask(_) | Call::List(..) | Call::Check => 3,
     }
 }
 
@@ -79,11 +80,13 @@ pub struct Difference {
     pub what: String,
 }
 
-/// A program beside the right build, with the calls compared so far, and the whys among them.
+/// A program beside the right build, with the calls compared so far, the whys among them, and how often
+/// each reply number was met but by a format.
 pub struct Beside<'a, P> {
     program: &'a P,
     pub calls: usize,
     pub whys: usize,
+    pub replies: BTreeMap<u32, usize>,
 }
 
 impl<'a, P: Program> Beside<'a, P> {
@@ -93,6 +96,7 @@ impl<'a, P: Program> Beside<'a, P> {
             program,
             calls: 0,
             whys: 0,
+            replies: BTreeMap::new(),
         }
     }
 
@@ -219,6 +223,7 @@ impl<'a, P: Program> Beside<'a, P> {
         let wanted = Variant::Right.perform(right, call);
         self.calls += 1;
         self.whys += usize::from(matches!(call, Call::Why(_)));
+        *self.replies.entry(wanted.number).or_default() += 1;
         match other(&told, &wanted).or_else(|| first_other("the store", store, right)) {
             None => Ok(wanted),
             Some(what) => Err(Difference {

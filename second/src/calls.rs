@@ -1,9 +1,10 @@
 //! The calls on any words: reply number, values, and every lent word afterwards.
 
+use crate::fault::{Fault, Place, Rule, ACROSS};
 use crate::geometry::{Geometry, HEAD_COUNT, HEAD_SLOTS, LIVE, MOST_LEVELS, ONES, SLOT_WORDS};
 use crate::reading;
 use crate::slot::{Entry, Pair, Slot};
-use crate::sound::fault;
+use crate::sound;
 use crate::tree::{Merged, Tree};
 use crate::variant::Variant;
 use crate::walk::{trail, walk, Answer, Step};
@@ -26,18 +27,16 @@ pub const NOT_HELD: u32 = 3;
 pub const FULL: u32 = 4;
 /// Reply 5: a store or work area not of the exact length.
 pub const LENGTH: u32 = 5;
-/// Reply 6: a rule of soundness is broken at the level told.
-pub const UNSOUND: u32 = 6;
 
 /// The values of an accepted why: what ask answers, then five for each of four levels.
 pub const WHY_VALUES: usize = 2 + WHY_LEVEL_VALUES * MOST_LEVELS;
 /// The values that why tells of a level.
 pub const WHY_LEVEL_VALUES: usize = 5;
 
-/// A refused call: its number, and its level where the number is 6.
+/// A refused call: its number, and its place where the number is one of a fault (10 to 14).
 struct Refusal {
     number: u32,
-    level: usize,
+    place: Place,
 }
 
 /// An accepted put or drop: its values, the store afterwards, and whether it merged.
@@ -81,7 +80,7 @@ pub fn drop(variant: Variant, store: &mut [u32], work: &mut [u32], pair: Pair) -
 /// Asks for a pair: 1 for held or 0, and the deciding level.
 pub fn ask(variant: Variant, store: &[u32], pair: Pair) -> Reply {
     reply(open(variant, store).and_then(|geometry| {
-        let answer = walk(geometry, store, pair).map_err(unsound)?;
+        let answer = walk(geometry, store, pair).map_err(|fault| unsound(variant, fault))?;
         let held = answer.held || variant == Variant::SaysHeld;
         Ok(vec![held as u32, answer.level as u32])
     }))
@@ -90,7 +89,7 @@ pub fn ask(variant: Variant, store: &[u32], pair: Pair) -> Reply {
 /// Tells why a pair is held or not: what ask answers, then what its walk met in each level.
 pub fn why(variant: Variant, store: &[u32], pair: Pair) -> Reply {
     reply(open(variant, store).and_then(|geometry| {
-        let mut trail = trail(geometry, store, pair).map_err(unsound)?;
+        let mut trail = trail(geometry, store, pair).map_err(|fault| unsound(variant, fault))?;
         let answer = Answer::of(geometry, &trail);
         if variant == Variant::WhyLastLevelOut {
             trail.pop();
@@ -165,8 +164,8 @@ fn open_whole(variant: Variant, store: &[u32]) -> Result<Geometry, Refusal> {
 
 /// The whole-store test as a refusal.
 fn test_whole(variant: Variant, geometry: Geometry, store: &[u32]) -> Result<(), Refusal> {
-    match fault(geometry, store, variant) {
-        Some(level) => Err(unsound(level)),
+    match sound::fault(geometry, store, variant) {
+        Some(fault) => Err(unsound(variant, fault)),
         None => Ok(()),
     }
 }
@@ -182,10 +181,10 @@ fn change(
     if work_words != geometry.work_words() {
         return Err(refuse(LENGTH));
     }
-    let answer = walk(geometry, store, entry.pair).map_err(unsound)?;
+    let answer = walk(geometry, store, entry.pair).map_err(|fault| unsound(variant, fault))?;
     let full = reading::live(store) as usize == geometry.most();
     if entry.filter {
-        test_drop(geometry, store, answer)?;
+        test_drop(variant, store, answer)?;
     } else {
         test_put(variant, answer, full)?;
     }
@@ -212,11 +211,12 @@ fn test_put(variant: Variant, answer: Answer, full: bool) -> Result<(), Refusal>
 }
 
 /// The test 3 of a drop, and the late one for live = 0.
-fn test_drop(geometry: Geometry, store: &[u32], answer: Answer) -> Result<(), Refusal> {
+fn test_drop(variant: Variant, store: &[u32], answer: Answer) -> Result<(), Refusal> {
     if !answer.held {
         Err(refuse(NOT_HELD))
     } else if reading::live(store) == 0 {
-        Err(unsound(geometry.levels()))
+        let fault = Fault::new(ACROSS, Rule::Live, Place::default());
+        Err(unsound(variant, fault))
     } else {
         Ok(())
     }
@@ -315,26 +315,27 @@ fn make(
     }))
 }
 
-/// The reply of a call: done with its values, or refused with its level.
+/// The reply of a call: done with its values, or refused with the three of its place.
 fn reply(outcome: Result<Vec<u32>, Refusal>) -> Reply {
     match outcome {
         Ok(values) => Reply { number: 0, values },
         Err(refusal) => Reply {
             number: refusal.number,
-            values: vec![refusal.level as u32],
+            values: refusal.place.values().to_vec(),
         },
     }
 }
 
 /// A refusal that returns zeros.
 fn refuse(number: u32) -> Refusal {
-    Refusal { number, level: 0 }
+    Refusal {
+        number,
+        place: Place::default(),
+    }
 }
 
-/// Reply 6 with its level.
-fn unsound(level: usize) -> Refusal {
-    Refusal {
-        number: UNSOUND,
-        level,
-    }
+/// A fault with its number and its place, as this build tells it.
+fn unsound(variant: Variant, fault: Fault) -> Refusal {
+    let Fault { number, place, .. } = fault.told_by(variant);
+    Refusal { number, place }
 }

@@ -5,7 +5,8 @@ use std::fmt::Debug;
 use std::ops::RangeInclusive;
 
 use crate::call::numbered;
-use crate::calls::{self, Reply, FULL, HELD, UNSOUND};
+use crate::calls::{self, Reply, FULL, HELD};
+use crate::fault::{Place, PAGE_FORM};
 use crate::generate::formatted;
 use crate::geometry::{Geometry, HEAD_SLOTS};
 use crate::layout::fences_to;
@@ -202,9 +203,12 @@ impl Bench {
     }
 }
 
-/// An accepted reply with its values named, or a refusal with its level.
+/// An accepted reply with its values named, or a refusal with its place.
 fn with_names(reply: &Reply, names: &[&str]) -> String {
-    let names = if reply.number == 0 { names } else { &["level"] };
+    let names = match reply.number {
+        0 => names,
+        _ => &["level", "page", "slot"],
+    };
     let values = names.iter().zip(&reply.values);
     let named: String = values
         .map(|(name, value)| format!(" {name} {value}"))
@@ -236,7 +240,12 @@ fn done(values: &[u32]) -> Reply {
 
 /// The reply of a refusal with zeros.
 fn refused(number: u32) -> Reply {
-    let values = vec![0];
+    refused_at(number, Place::default())
+}
+
+/// The reply of a refusal with this place.
+fn refused_at(number: u32, place: Place) -> Reply {
+    let values = place.values().to_vec();
     Reply { number, values }
 }
 
@@ -327,9 +336,14 @@ fn case_7(bench: &mut Bench) {
         for damaged in [0, 1] {
             let start = bench.geometry.page_start(1, damaged);
             bench.store[start] = 22;
-            let number = if damaged == page { UNSOUND } else { 0 };
-            let answer = bench.ask_under(&format!("page {damaged} damaged: "), badge, 0);
-            bench.wants("ask, damaged", answer.number, number);
+            let told = bench.ask_under(&format!("page {damaged} damaged: "), badge, 0);
+            let wanted = if damaged == page {
+                let (level, slot) = (1, 0);
+                refused_at(PAGE_FORM, Place { level, page, slot })
+            } else {
+                answer.clone()
+            };
+            bench.wants("ask, damaged", told, wanted);
             bench.store = sound.clone();
         }
     }

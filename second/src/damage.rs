@@ -32,6 +32,8 @@ enum Damage {
     Loose,
     /// The store's words are damaged.
     Words(words::Spoil),
+    /// The slots are damaged, and then the words, so that two rules may be broken.
+    SlotsAndWords(slots::Spoil, words::Spoil),
     /// The store's length is wrong.
     Length(length::Spoil),
 }
@@ -45,9 +47,12 @@ const LAYOUTS: &[Named<Variant>] = &[
     ),
 ];
 
+/// The name of damage to slots and then to words.
+const BOTH: &str = "slots, and then words";
+
 /// The names of all kinds of damage.
 pub fn names() -> Vec<String> {
-    let mut names = vec!["sound".to_string(), "loose".to_string()];
+    let mut names = ["sound", "loose", BOTH].map(str::to_string).to_vec();
     names.extend(entries::KINDS.iter().map(|kind| name("entries", kind)));
     names.extend(LAYOUTS.iter().map(|kind| name("layout", kind)));
     names.extend(slots::KINDS.iter().map(|kind| name("slots", kind)));
@@ -70,7 +75,7 @@ pub fn damaged(random: &mut Random, number: usize) -> Case {
 
 /// A kind of damage and its name.
 fn any_damage(random: &mut Random) -> (String, Damage) {
-    match random.below(24) {
+    match random.below(27) {
         0 => ("sound".to_string(), Damage::None),
         1..4 => ("loose".to_string(), Damage::Loose),
         4..8 => {
@@ -88,6 +93,10 @@ fn any_damage(random: &mut Random) -> (String, Damage) {
         16..23 => {
             let kind = random.pick(words::KINDS);
             (name("word", kind), Damage::Words(kind.1))
+        }
+        23..26 => {
+            let (slots, words) = (random.pick(slots::KINDS), random.pick(words::KINDS));
+            (BOTH.to_string(), Damage::SlotsAndWords(slots.1, words.1))
         }
         _ => {
             let kind = random.pick(length::KINDS);
@@ -116,12 +125,14 @@ fn damaged_store(random: &mut Random, geometry: Geometry, damage: &Damage) -> Ve
         Damage::Loose => loose::lay(random, geometry),
         _ => lay_tree(&tree, Variant::Right),
     };
-    if let Damage::Slots(spoil) = damage {
+    if let Damage::Slots(spoil) | Damage::SlotsAndWords(spoil, _) = damage {
         spoil(random, &tree, &mut laid);
     }
     let mut store = write_laid(geometry, live, &laid);
     match damage {
-        Damage::Words(spoil) => spoil(random, geometry, &mut store),
+        Damage::Words(spoil) | Damage::SlotsAndWords(_, spoil) => {
+            spoil(random, geometry, &mut store);
+        }
         Damage::Length(spoil) => spoil(random, &mut store),
         _ => {}
     }

@@ -11,6 +11,7 @@ pub mod layout;
 pub mod tree;
 pub mod writing;
 
+pub mod fault;
 pub mod form;
 pub mod reading;
 pub mod sound;

@@ -7,16 +7,16 @@
 //! live builds        every false build in its place
 //! live build NAME    one build in its place; Right has no difference
 //! ```
+//!
+//! The first two need the feature `library`; without it there is no library to compare.
 
 use std::process::ExitCode;
 use std::time::Instant;
 
-use second::beside::{out_words, Beside, Difference, Numbers, Program, Told};
-use second::call::{numbered, Call};
-use second::calls::WHY_VALUES;
-use second::geometry::ONES;
-use second::library;
-use second::slot::Pair;
+use second::beside::{Beside, Difference, Program};
+use second::fault::NUMBERS;
+#[cfg(feature = "library")]
+use second::library::Library;
 use second::variant::{Variant, FALSE_BUILDS};
 
 /// What is printed when a command line is not understood.
@@ -38,62 +38,10 @@ const SEQUENCES: [(&str, u64, usize); 10] = [
 ];
 /// The rounds of damaged stores, each with a seed of its own, and their number in a round.
 const DAMAGED: (u64, usize) = (16, 10_000);
-
-/// The proved library.
-struct Library;
-
-impl Program for Library {
-    /// Formats by the library.
-    fn format(&self, store: &mut [u32], [head, ratio, levels]: Numbers) -> u32 {
-        library::format(store, head, ratio, levels)
-    }
-
-    /// Makes a call by the library, with every word of `out` set to ones before.
-    fn perform(&self, store: &mut [u32], call: Call) -> Told {
-        let (mut work, mut slice) = (Vec::new(), Vec::new());
-        let mut seven = [ONES; 7];
-        let (mut two, mut one) = ([ONES; 2], [ONES; 1]);
-        let mut trail = [ONES; WHY_VALUES];
-        let number = match call {
-            Call::Ask(Pair { badge, floor }) => library::ask(store, badge, floor, &mut two),
-            Call::Why(Pair { badge, floor }) => library::why(store, badge, floor, &mut trail),
-            Call::Put(Pair { badge, floor }, length) => {
-                work = numbered(0, length);
-                library::put(store, &mut work, badge, floor, &mut seven)
-            }
-            Call::Drop(Pair { badge, floor }, length) => {
-                work = numbered(0, length);
-                library::drop(store, &mut work, badge, floor, &mut seven)
-            }
-            Call::List(first, last, length) => {
-                slice = numbered(1000, length);
-                let (first, last) = ((first.badge, first.floor), (last.badge, last.floor));
-                library::list(store, first, last, &mut slice, &mut two)
-            }
-            Call::Check => library::check(store, &mut one),
-        };
-        let out = match out_words(call) {
-            WHY_VALUES => trail.to_vec(),
-            7 => seven.to_vec(),
-            2 => two.to_vec(),
-            _ => one.to_vec(),
-        };
-        Told {
-            number,
-            out,
-            work,
-            slice,
-        }
-    }
-
-    /// The library's own words.
-    fn words(&self, [head, ratio, levels]: Numbers) -> [u32; 2] {
-        [
-            library::store_words(head, ratio, levels),
-            library::work_words(head, ratio, levels),
-        ]
-    }
-}
+/// The fewest calls that must be compared.
+const LEAST_CALLS: usize = 3_000_000;
+/// The fewest calls that must tell each number of a fault, 10 to 14.
+const LEAST_FAULTS: usize = 10_000;
 
 /// Runs the command; the exit code is 1 for a difference of the library, or a false build not found.
 fn main() -> ExitCode {
@@ -123,25 +71,43 @@ fn fail(message: &str) -> ExitCode {
 }
 
 /// Whether the library has no difference.
+#[cfg(feature = "library")]
 fn library_is_right() -> bool {
     is_right("library", &Library)
 }
 
-/// Whether a program has no difference; says so, or where it has one.
+/// There is no library to compare.
+#[cfg(not(feature = "library"))]
+fn library_is_right() -> bool {
+    println!("library: NOT COMPARED, as this program was built without it");
+    false
+}
+
+/// Whether a program has no difference, in as much as the comparison must show; says so, or where it
+/// has one.
 fn is_right<P: Program>(name: &str, program: &P) -> bool {
     let start = Instant::now();
     let mut beside = Beside::new(program);
-    let outcome = compare(&mut beside);
-    match &outcome {
-        Ok(()) => println!(
-            "{name}: {} calls, {} of them whys, every word the same, in {} s",
-            beside.calls,
-            beside.whys,
-            start.elapsed().as_secs()
-        ),
-        Err(difference) => println!("{name}: {}", told(difference, beside.calls)),
+    if let Err(difference) = compare(&mut beside) {
+        println!("{name}: {}", told(&difference, beside.calls));
+        return false;
     }
-    outcome.is_ok()
+    println!(
+        "{name}: {} calls, {} of them whys, every word the same, in {} s",
+        beside.calls,
+        beside.whys,
+        start.elapsed().as_secs()
+    );
+    for (number, met) in &beside.replies {
+        println!("reply {number}: {met} calls");
+    }
+    let met = |number| beside.replies.get(number).copied().unwrap_or(0);
+    let enough =
+        beside.calls >= LEAST_CALLS && NUMBERS.iter().all(|number| met(number) >= LEAST_FAULTS);
+    if !enough {
+        println!("{name}: TOO LITTLE COMPARED");
+    }
+    enough
 }
 
 /// Whether every false build is found; says which call shows each.
@@ -167,8 +133,11 @@ fn told(difference: &Difference, calls: usize) -> String {
     format!("after {calls} calls: {shown_by}: {what}")
 }
 
-/// Compares everything: sequences of all geometries in turn, damaged stores, and formats.
+/// Compares everything: a round of damaged stores, which soon finds what tells a fault wrongly, sequences
+/// of all geometries in turn, the other rounds of damage, and formats.
 fn compare<P: Program>(beside: &mut Beside<P>) -> Result<(), Difference> {
+    let (rounds, cases) = DAMAGED;
+    beside.damaged(1, cases)?;
     let most = SEQUENCES.iter().map(|(_, sequences, _)| *sequences).max();
     for seed in 1..=most.unwrap_or(0) {
         for (text, sequences, calls) in SEQUENCES {
@@ -178,8 +147,7 @@ fn compare<P: Program>(beside: &mut Beside<P>) -> Result<(), Difference> {
             }
         }
     }
-    let (rounds, cases) = DAMAGED;
-    for seed in 1..=rounds {
+    for seed in 2..=rounds {
         beside.damaged(seed, cases)?;
     }
     beside.formats()

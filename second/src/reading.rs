@@ -2,6 +2,7 @@
 //!
 //! Every function here but the first wants a store of its geometry's exact length.
 
+use crate::fault::Place;
 use crate::geometry::{
     Geometry, HEAD_COUNT, HEAD_SLOTS, LIVE, PAGE_COUNTS, PAGE_SLOTS, SLOT_WORDS,
 };
@@ -58,14 +59,27 @@ pub fn first_pairs(geometry: Geometry, store: &[u32], level: usize) -> Vec<Pair>
 
 /// The index entries of a level in the order in which they stand, by kind alone.
 pub fn entries(geometry: Geometry, store: &[u32], level: usize) -> Vec<Entry> {
-    let slots: Vec<Slot> = if level == 0 {
-        head(geometry, store)
+    let placed = placed_entries(geometry, store, level);
+    placed.into_iter().map(|(_, entry)| entry).collect()
+}
+
+/// The index entries of a level with their places, in the order in which they stand.
+pub fn placed_entries(geometry: Geometry, store: &[u32], level: usize) -> Vec<(Place, Entry)> {
+    let pages = if level == 0 {
+        vec![head(geometry, store)]
     } else {
         page_numbers(geometry, store, level)
-            .flat_map(|number| page(geometry, store, level, number))
+            .map(|number| page(geometry, store, level, number))
             .collect()
     };
-    slots.iter().filter_map(Entry::of_slot).collect()
+    let mut placed = Vec::new();
+    for (page, slots) in pages.iter().enumerate() {
+        for (slot, words) in slots.iter().enumerate() {
+            let place = Place { level, page, slot };
+            placed.extend(Entry::of_slot(words).map(|entry| (place, entry)));
+        }
+    }
+    placed
 }
 
 /// The index entries of every level.

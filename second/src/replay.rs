@@ -27,8 +27,9 @@
 //! After the call:
 //! 1. The digest of replies (see `digest`) is given the reply number, then its values: of an
 //!    accepted ask held and level, why its 22 words, put and drop live, deepest, pages and the
-//!    four counts, list pairs and mark, format and check 0; of a refusal the level for 6, else
-//!    0. After a list it is given the slice's n words. It starts with the first format.
+//!    four counts, list pairs and mark, format and check 0; of a refusal three: level, page and
+//!    slot for 10 to 14, else zeros. After a list it is given the slice's n words. It starts with
+//!    the first format.
 //! 2. After a put with reply 4: if draw(4) = 0, the mode is draining. After an accepted drop
 //!    that leaves live at most M / 4 (rounded down) it is filling.
 //! 3. If this is the last call, or the calls so far are a multiple of the interval, a line

@@ -12,13 +12,15 @@
 //! 8 badge floor                  why
 //! ```
 //!
-//! Each call prints a line: the reply's number and its values (seven after a put or drop, 22 after a
-//! why, two after an ask, list or check, none after a format; a refusal has zeros for those that it
-//! does not give), after a list its words, and after a put, drop or format the words that it changed:
-//! ` 8=2 12=0*3` says that word 8 is 2 now, and that words 12 to 14 are 0.
+//! Each call prints a line: the reply's number and its values, as many as the C interface has (seven
+//! after a put or drop, 22 after a why, three after an ask, list or check, none after a format; zeros
+//! for those that the reply does not give; the first three of a refusal are its place), after a list
+//! its words, and after a put, drop or format the words that it changed: ` 8=2 12=0*3` says that word
+//! 8 is 2 now, and that words 12 to 14 are 0.
 
+use crate::beside::out_words;
 use crate::call::{numbered, perform, Call};
-use crate::calls::{self, WHY_VALUES};
+use crate::calls;
 use crate::damage::damaged;
 use crate::generate::formatted;
 use crate::random::Random;
@@ -114,7 +116,7 @@ impl Script {
         let edits = matches!(call, Call::Put(..) | Call::Drop(..));
         let mut told = vec![outcome.reply.number];
         told.extend(outcome.reply.values);
-        told.resize(1 + values(call), 0);
+        told.resize(1 + out_words(call), 0);
         told.extend(outcome.slice);
         let items: Vec<String> = told.iter().map(u32::to_string).collect();
         let mut line = items.join(" ");
@@ -143,15 +145,6 @@ fn most_lent(case: &Case) -> usize {
         Call::Ask(_) | Call::Why(_) | Call::Check => 0,
     });
     beside_the_store.fold(case.store.len(), usize::max)
-}
-
-/// The values that a call's line has.
-fn values(call: Call) -> usize {
-    match call {
-        Call::Put(..) | Call::Drop(..) => 7,
-        Call::Why(_) => WHY_VALUES,
-        Call::Ask(_) | Call::List(..) | Call::Check => 2,
-    }
 }
 
 /// The numbers of a call.

@@ -158,6 +158,9 @@ fn perform_group(group: &Group, store: &mut [u32], work: &mut [u32]) -> (String,
             return (format!("ask={}\n", reply.values[0]), 0);
         }
     };
-    let pages = reply.values.get(2).copied().unwrap_or(0);
+    let pages = match reply.number {
+        0 => reply.values[2],
+        _ => 0,
+    };
     (format!("{name}={}\n", reply.number), pages)
 }

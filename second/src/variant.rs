@@ -37,10 +37,22 @@ pub enum Variant {
     WhyFilterNormal,
     /// Why leaves out the last level read.
     WhyLastLevelOut,
+    /// A head that is not its writing is told before a page below without page form.
+    HeadWritingBeforePages,
+    /// Of two slots out of order the left one is told.
+    LeftOfTwo,
+    /// The slot of a fault is counted from 1.
+    SlotFromOne,
+    /// An entry not above the last one is told by the internal fence before it.
+    InternalFenceForEntry,
+    /// A wrong live is told with the place of the first entry.
+    LiveAtEntry,
+    /// A fault of the head is told as one of the directory.
+    HeadToldAsDirectory,
 }
 
 /// Every false build.
-pub const FALSE_BUILDS: [Variant; 16] = [
+pub const FALSE_BUILDS: [Variant; 22] = [
     Variant::PageByte,
     Variant::CancelOnlyFilterAbove,
     Variant::DropUnmatchedFilter,
@@ -57,6 +69,12 @@ pub const FALSE_BUILDS: [Variant; 16] = [
     Variant::WhyFirstSlot,
     Variant::WhyFilterNormal,
     Variant::WhyLastLevelOut,
+    Variant::HeadWritingBeforePages,
+    Variant::LeftOfTwo,
+    Variant::SlotFromOne,
+    Variant::InternalFenceForEntry,
+    Variant::LiveAtEntry,
+    Variant::HeadToldAsDirectory,
 ];
 
 impl std::str::FromStr for Variant {

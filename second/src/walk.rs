@@ -1,6 +1,7 @@
 //! Finding: the head, then one page of each lower level, each tested as it is met.
 
-use crate::form::{directory_holds, head_holds, page_holds};
+use crate::fault::{Fault, Place, Rule, WRITING};
+use crate::form::{directory_fault, head_fault, page_fault};
 use crate::geometry::Geometry;
 use crate::reading;
 use crate::slot::{Entry, Pair, Slot};
@@ -32,18 +33,17 @@ pub struct Fence {
     pub page: usize,
 }
 
-/// Walks to a pair; the error is the level of the first fault met.
-pub fn walk(geometry: Geometry, store: &[u32], asked: Pair) -> Result<Answer, usize> {
+/// Walks to a pair; the error is the first fault met.
+pub fn walk(geometry: Geometry, store: &[u32], asked: Pair) -> Result<Answer, Fault> {
     let trail = trail(geometry, store, asked)?;
     Ok(Answer::of(geometry, &trail))
 }
 
 /// The steps of the walk to a pair, one for each level read, from the head down; the error is the
-/// level of the first fault met.
-pub fn trail(geometry: Geometry, store: &[u32], asked: Pair) -> Result<Vec<Step>, usize> {
-    if !directory_holds(geometry, store) || !head_holds(geometry, store) {
-        return Err(0);
-    }
+/// first fault met. Each page is tested before the next one is read.
+pub fn trail(geometry: Geometry, store: &[u32], asked: Pair) -> Result<Vec<Step>, Fault> {
+    let above = directory_fault(geometry, store).or_else(|| head_fault(geometry, store));
+    above.map_or(Ok(()), Err)?;
     let mut trail = vec![Step::on(0, &reading::head(geometry, store), asked)];
     for level in 1..geometry.levels() {
         let Some(fence) = trail[level - 1].fence else {
@@ -101,23 +101,24 @@ impl Fence {
     }
 }
 
-/// The slots of a page on the walk, once it has passed the tests of a walked page.
+/// The slots of a page on the walk, once it has passed the tests of a walked page: its form, and above
+/// the bottom its first slot.
 fn walked_page(
     geometry: Geometry,
     store: &[u32],
     level: usize,
     page: usize,
     asked: Pair,
-) -> Result<Vec<Slot>, usize> {
-    if !page_holds(geometry, store, level, page) {
-        return Err(level);
-    }
+) -> Result<Vec<Slot>, Fault> {
+    page_fault(geometry, store, level, page).map_or(Ok(()), Err)?;
     let slots = reading::page(geometry, store, level, page);
     let opens_well = slots
         .first()
         .is_some_and(|first| first.is_fence() && first.pair <= asked);
     if level < geometry.bottom() && !opens_well {
-        return Err(level);
+        let slot = 0;
+        let place = Place { level, page, slot };
+        return Err(Fault::new(WRITING, Rule::FirstSlot, place));
     }
     Ok(slots)
 }

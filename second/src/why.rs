@@ -1,6 +1,7 @@
 //! The program `why`: two arguments and the bytes of a chip in, text out.
 
 use crate::calls::{self, Reply, LENGTH, RANGE, WHY_LEVEL_VALUES};
+use crate::fault::{DIRECTORY, HEAD, PAGE_FORM, WRITING};
 use crate::sheet::decimal;
 use crate::slot::Pair;
 use crate::variant::Variant;
@@ -57,10 +58,10 @@ fn judge(arguments: &[&[u8]], chip: &[u8]) -> Result<(Pair, Vec<u32>), &'static 
 }
 
 /// The lines of a reply.
-fn lines(pair: Pair, reply: &Reply) -> Vec<String> {
+pub fn lines(pair: Pair, reply: &Reply) -> Vec<String> {
     match reply.number {
         0 => answer_lines(pair, &reply.values),
-        number => refusal_lines(number, reply.values[0]),
+        number => refusal_lines(number, &reply.values),
     }
 }
 
@@ -109,17 +110,30 @@ fn sentence(Pair { badge, floor }: Pair, held: bool, removed: bool, decided: u32
     format!("Badge {badge} {may} call floor {floor}: {because}.")
 }
 
-/// The lines of a refusal: its number, with the level of a fault, and what it says of the chip.
-fn refusal_lines(number: u32, level: u32) -> Vec<String> {
+/// The lines of a refusal: its number, with the place of a fault, and what it says of the chip.
+fn refusal_lines(number: u32, place: &[u32]) -> Vec<String> {
     let says = match number {
         RANGE => "The chip cannot be read: its first three words name no geometry.",
         LENGTH => "The chip cannot be read: its length is not the one that its geometry asks for.",
-        _ => {
-            return vec![
-                format!("reply={number} level={level}"),
-                format!("The store is damaged: the fault stands in level {level}."),
-            ]
-        }
+        _ => return fault_lines(number, place[0], place[1], place[2]),
     };
     vec![format!("reply={number}"), says.to_string()]
+}
+
+/// The lines of a fault: its number and its place, and what they say for a service desk.
+fn fault_lines(number: u32, level: u32, page: u32, slot: u32) -> Vec<String> {
+    let says = match number {
+        DIRECTORY => "its directory is wrong".to_string(),
+        HEAD => format!("the head is wrong at slot {slot}"),
+        PAGE_FORM => format!("page {page} of level {level} is wrong at slot {slot}"),
+        WRITING => format!("level {level} is not as it is written, at slot {slot} of page {page}"),
+        _ if (level, page, slot) == (0, 0, 0) => "the number of pairs is wrong".to_string(),
+        _ => format!(
+            "an entry in level {level}, page {page}, slot {slot} does not fit the levels below"
+        ),
+    };
+    vec![
+        format!("reply={number} level={level} page={page} slot={slot}"),
+        format!("The store is damaged: {says}."),
+    ]
 }

@@ -11,7 +11,9 @@ use crate::call::Call;
 use crate::chips::bytes;
 use crate::damage::damaged;
 use crate::generate::formatted;
-use crate::geometry::{Geometry, HEAD_COUNT, HEAD_SLOTS, LIVE, PAGE_COUNTS, PAGE_SLOTS, ZERO_WORD};
+use crate::geometry::{
+    Geometry, HEAD_COUNT, HEAD_SLOTS, LIVE, PAGE_COUNTS, PAGE_SLOTS, SLOT_WORDS, ZERO_WORD,
+};
 use crate::random::Random;
 use crate::slot::{Entry, Pair, GREATEST, LEAST};
 use crate::tree::Tree;
@@ -93,6 +95,7 @@ pub fn inputs() -> Vec<Input> {
         let geometry = Geometry::new(head, ratio, levels).expect("a geometry in its ranges");
         inputs.extend(answers(geometry));
         inputs.extend(faults(geometry));
+        inputs.extend(first_slots(geometry));
     }
     inputs.extend(no_geometries());
     inputs.extend(lengths());
@@ -155,6 +158,21 @@ fn faults(geometry: Geometry) -> Vec<Input> {
         Input::of(asked(geometry), &store)
     };
     faults.into_iter().map(spoilt).collect()
+}
+
+/// Stores in which every page of a level between head and bottom opens with an entry, one floor below
+/// the fence that it was where that can be.
+fn first_slots(geometry: Geometry) -> Vec<Input> {
+    let spoilt = |level: usize| {
+        let mut store = store(geometry, &[]);
+        for page in 0..geometry.page_room(level) {
+            let first = geometry.page_start(level, page) + 1;
+            store[first + 1] = store[first + 1].saturating_sub(1);
+            store[first + SLOT_WORDS - 1] = 0;
+        }
+        Input::of(asked(geometry), &store)
+    };
+    (1..geometry.bottom()).map(spoilt).collect()
 }
 
 /// Chips whose first three words are no geometry.

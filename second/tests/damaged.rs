@@ -5,9 +5,10 @@ mod common;
 use std::collections::{BTreeMap, BTreeSet};
 
 use second::call::{numbered, perform, Call};
-use second::calls;
+use second::calls::{self, Reply};
 use second::damage::{self, damaged};
-use second::geometry::{Geometry, LIVE, ONES};
+use second::fault::{DIRECTORY, HEAD, NUMBERS, PAGE_FORM};
+use second::geometry::{Geometry, LIVE, ONES, PAGE_SLOTS};
 use second::layout::lay_tree;
 use second::random::Random;
 use second::reading;
@@ -32,10 +33,7 @@ fn call(store: &mut [u32], call: Call) -> u32 {
             numbered(1000, outcome.slice.len()),
             "{call:?}"
         );
-        assert_eq!(reply.values.len(), 1);
-        assert!(reply.number == 6 || reply.values[0] == 0);
-        let levels = before.get(2).copied().unwrap_or(0);
-        assert!(reply.values[0] <= levels);
+        refused(&before, reply);
     } else if writes {
         accepted(&before, store, &reply.values, &outcome.work);
     }
@@ -43,6 +41,30 @@ fn call(store: &mut [u32], call: Call) -> u32 {
         why_answers_as_ask_does(store, pair);
     }
     reply.number
+}
+
+/// A refusal has three values: zeros, or from 11 on a place that the store has.
+fn refused(store: &[u32], reply: &Reply) {
+    assert!([1, 2, 3, 4, 5].contains(&reply.number) || NUMBERS.contains(&reply.number));
+    let [level, page, slot] = reply.values[..] else {
+        panic!("{reply:?}");
+    };
+    if reply.number <= DIRECTORY {
+        assert_eq!(reply.values, [0; 3]);
+        return;
+    }
+    let geometry = reading::geometry(store).expect("a geometry");
+    let (level, page) = (level as usize, page as usize);
+    let (pages, slots) = match level {
+        0 => (1, geometry.head_room()),
+        _ => (geometry.page_room(level), PAGE_SLOTS),
+    };
+    assert!(page < pages && (slot as usize) < slots, "{reply:?}");
+    match reply.number {
+        HEAD => assert_eq!(level, 0),
+        PAGE_FORM => assert!(level > 0),
+        _ => {}
+    }
 }
 
 /// Why has the number and the first values of ask, and names an entry just where one decides.
@@ -106,7 +128,7 @@ fn a_refusal_changes_nothing_on_damaged_stores() {
         }
     }
     assert_eq!(names, BTreeSet::from_iter(damage::names()));
-    for number in 0..=6 {
+    for number in (0..=5).chain(NUMBERS) {
         assert!(
             replies.get(&number).is_some_and(|n| *n > 100),
             "reply {number}: {replies:?}"
@@ -203,7 +225,7 @@ fn a_page_that_the_directory_does_not_count_is_told() {
     let mut store = write_laid(geometry, 256, &laid);
     store[4] = 1;
     let reply = calls::check(Variant::Right, &store);
-    assert_eq!((reply.number, reply.values), (6, vec![1]));
+    assert_eq!((reply.number, reply.values), (13, vec![1, 1, 0]));
 }
 
 #[test]
@@ -211,7 +233,7 @@ fn format_tests_numbers_before_lengths() {
     let format = |store: &mut [u32], h, k, l| {
         let before = store.to_vec();
         let reply = calls::format(Variant::Right, store, h, k, l);
-        assert_eq!(reply.values, [0]);
+        assert!(reply.values.iter().all(|value| *value == 0));
         assert!(reply.number == 0 || store == before);
         reply.number
     };

@@ -26,14 +26,14 @@ fn pinned_replays() {
     let pinned = |text, seed, damage| lines(text, seed, damage, 2000, 2000).join("\n");
     assert_eq!(
         pinned("4,2,3", 1, None),
-        "calls 2000 live 7 store 360e4a38eeb3cfc4 work f5f45328a8ebdb25 replies 3b03741d0a4f900e",
+        "calls 2000 live 7 store 360e4a38eeb3cfc4 work f5f45328a8ebdb25 replies 12ad456e15ada88e",
     );
     assert_eq!(
         pinned("4,2,3", 1, Some(40)),
-        "calls 2000 live 16 store fc3bb61070e86b87 work f5f45328a8ebdb25 replies 6b11098bec98aa2a",
+        "calls 2000 live 16 store fc3bb61070e86b87 work f5f45328a8ebdb25 replies b41c6bb3bfb4dfb2",
     );
     assert_eq!(
         pinned("16,4,3", 7, None),
-        "calls 2000 live 89 store 6ffb686fe53d4bf0 work c081fdb636a83ba5 replies e9e833b4e4382e7a",
+        "calls 2000 live 89 store 6ffb686fe53d4bf0 work c081fdb636a83ba5 replies caab640ebeeebada",
     );
 }

@@ -1,7 +1,8 @@
 //! The listed replays show what a long sequence must show.
 
-use std::collections::BTreeMap;
+use std::collections::{BTreeMap, BTreeSet};
 
+use second::fault::NUMBERS;
 use second::geometry::Geometry;
 use second::plan::{Plan, LIST};
 use second::reading;
@@ -19,8 +20,8 @@ struct Shown {
     /// Merges that cancelled a pair whose upper entry was normal, and a filter.
     cancelled: [usize; 2],
     at_most: usize,
-    /// Replies 6, by the level told.
-    faults: [usize; 5],
+    /// Faults, by the number told.
+    faults: BTreeMap<u32, usize>,
 }
 
 impl Shown {
@@ -32,8 +33,8 @@ impl Shown {
             let before = replay.store().to_vec();
             let reply = replay.step();
             let store = replay.store();
-            if reply.number == 6 {
-                shown.faults[reply.values[0] as usize] += 1;
+            if NUMBERS.contains(&reply.number) {
+                *shown.faults.entry(reply.number).or_default() += 1;
             }
             let edited = reply.number == 0 && reply.values.len() == 7;
             if edited && reply.values[0] as usize == plan.geometry.most() {
@@ -100,17 +101,18 @@ fn columns(tree: &Tree) -> BTreeMap<Pair, Vec<Entry>> {
 fn the_listed_replays_show_what_they_must() {
     let largest = Geometry::new(64, 8, 4).expect("a geometry");
     let mut cancelled = [0; 2];
+    let mut numbers = BTreeSet::new();
     for plan in plans() {
         let shown = Shown::by(plan);
         println!("{plan:?}\n  {shown:?}");
         let merged = (1..plan.geometry.levels()).all(|level| shown.merges[level] > 0);
         assert!(merged, "no merge into a level: {plan:?}");
         if plan.damage.is_some() {
-            let found = shown.faults.iter().filter(|count| **count > 0).count();
-            assert!(found > 1, "damage of one level at most: {plan:?}");
+            assert!(shown.faults.len() > 1, "one number at most: {plan:?}");
+            numbers.extend(shown.faults.into_keys());
             continue;
         }
-        assert_eq!(shown.faults, [0; 5], "not sound: {plan:?}");
+        assert!(shown.faults.is_empty(), "not sound: {plan:?}");
         cancelled = [0, 1].map(|kind| cancelled[kind] + shown.cancelled[kind]);
         if plan.geometry == largest {
             assert!(shown.most_pages[3] > 255, "page numbers fit a byte");
@@ -121,12 +123,20 @@ fn the_listed_replays_show_what_they_must() {
         }
     }
     assert!(cancelled[0] > 0 && cancelled[1] > 0, "{cancelled:?}");
+    assert_eq!(numbers, NUMBERS.into(), "the numbers of faults");
 }
 
+/// Two changed words do not make an entry and the internal fence before it fall together, so that the
+/// build that tells the one for the other is left to the vectors.
 #[test]
-fn the_listed_replays_find_every_false_build() {
+fn the_listed_replays_find_every_false_build_but_one() {
     for variant in FALSE_BUILDS {
         let differs = |plan: Plan| plan.text(variant) != plan.text(Variant::Right);
-        assert!(plans().any(differs), "{variant:?}");
+        let found = plans().any(differs);
+        assert_eq!(
+            found,
+            variant != Variant::InternalFenceForEntry,
+            "{variant:?}"
+        );
     }
 }

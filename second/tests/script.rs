@@ -93,7 +93,7 @@ fn answers(text: &str) -> Vec<(usize, Vec<String>)> {
                 room = match word {
                     "put" | "drop" => 7,
                     "why" => 22,
-                    _ => 2,
+                    _ => 3,
                 };
                 work = rest.rsplit(' ').next().unwrap_or("");
                 continue;
@@ -131,9 +131,12 @@ fn every_vector_is_replayed_as_it_stands() {
 fn damaged_stores_are_asked_why_too() {
     let script = Script::of(Variant::Right, &[], 7, 1200);
     let first = |line: &str| line.split(' ').next().map(str::to_string);
-    let whys = script.lines.iter().filter(|l| l.split(' ').count() == 23);
+    let list = |line: &&String| line.contains(" 1000 ");
+    let long = script.lines.iter().filter(|l| l.split(' ').count() == 23);
+    let whys = long.filter(|line| !list(line));
     let replies: BTreeSet<_> = whys.filter_map(|line| first(line)).collect();
-    assert_eq!(replies, ["0", "1", "5", "6"].map(str::to_string).into());
+    let wanted = ["0", "1", "5", "10", "11", "12", "13"];
+    assert_eq!(replies, wanted.map(str::to_string).into());
 }
 
 #[test]
@@ -147,10 +150,14 @@ fn a_store_called_formatted_is_made_by_a_format() {
 }
 
 #[test]
-fn a_replay_of_the_vectors_finds_all_but_a_page_number_cut_to_a_byte() {
+fn a_replay_of_the_vectors_finds_what_the_vectors_find() {
     let right = lines(Variant::Right);
     for variant in FALSE_BUILDS {
         let found = lines(variant) != right;
-        assert_eq!(found, variant != Variant::PageByte, "{variant:?}");
+        assert_eq!(
+            found,
+            !common::NOT_IN_VECTORS.contains(&variant),
+            "{variant:?}"
+        );
     }
 }

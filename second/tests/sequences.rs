@@ -56,7 +56,8 @@ impl Beside {
             Call::List(first, last, length) => self.listed(first, last, length, &outcome),
             Call::Put(pair, _) if number == 0 => self.updated(pair, true, &outcome, check_every),
             Call::Drop(pair, _) if number == 0 => self.updated(pair, false, &outcome, check_every),
-            _ => assert_eq!(outcome.reply.values, [0]),
+            Call::Check => assert_eq!(outcome.reply.values, [0]),
+            _ => assert_eq!(outcome.reply.values, [0; 3]),
         }
         outcome
     }

@@ -6,9 +6,11 @@ use std::collections::BTreeSet;
 use std::io::Write;
 use std::process::{Command, Output, Stdio};
 
+use second::calls::Reply;
 use second::chips::{bytes, examples};
 use second::generate::formatted;
-use second::why::{run, MOST_BYTES};
+use second::slot::LEAST;
+use second::why::{lines, run, MOST_BYTES};
 use second::whys::{inputs, script, Input};
 
 /// What the program tells.
@@ -90,11 +92,42 @@ fn refusals() {
         ),
         (
             told("7", "1", &chip("damaged")),
-            "reply=6 level=2\nThe store is damaged: the fault stands in level 2.\n",
+            "reply=12 level=2 page=0 slot=0\n\
+             The store is damaged: page 0 of level 2 is wrong at slot 0.\n",
         ),
     ];
     for (given, wanted) in lines {
         assert_eq!(given, (wanted.to_string(), false));
+    }
+}
+
+#[test]
+fn the_sentence_of_each_number() {
+    let wanted = [
+        (10, [0, 0, 0], "its directory is wrong"),
+        (11, [0, 0, 5], "the head is wrong at slot 5"),
+        (12, [1, 4, 2], "page 4 of level 1 is wrong at slot 2"),
+        (
+            13,
+            [1, 4, 2],
+            "level 1 is not as it is written, at slot 2 of page 4",
+        ),
+        (
+            14,
+            [1, 4, 2],
+            "an entry in level 1, page 4, slot 2 does not fit the levels below",
+        ),
+        (14, [0, 0, 0], "the number of pairs is wrong"),
+    ];
+    for (number, values, says) in wanted {
+        let reply = Reply {
+            number,
+            values: values.to_vec(),
+        };
+        let [level, page, slot] = values;
+        let first = format!("reply={number} level={level} page={page} slot={slot}");
+        let second = format!("The store is damaged: {says}.");
+        assert_eq!(lines(LEAST, &reply), [first, second]);
     }
 }
 
@@ -151,11 +184,14 @@ fn the_command_writes_to_its_two_streams() {
     }
 }
 
-/// What kind of text an input gets: whether it is for standard error, and what its last line says
-/// behind the badge and the floor.
+/// What kind of text an input gets: the number and the level of a fault, or else whether it is for
+/// standard error, and what its last line says behind the badge and the floor.
 fn kind(input: &Input) -> String {
     let told = input.told();
     let lines: Vec<&str> = told.text.lines().collect();
+    if let Some((fault, _)) = lines[0].split_once(" page=").filter(|_| lines.len() == 2) {
+        return fault.to_string();
+    }
     let says = lines[lines.len() - 1].split(": ").skip(1);
     format!("{} {}", told.wrong, says.collect::<Vec<_>>().join(": "))
 }
@@ -180,11 +216,20 @@ fn the_inputs_show_every_kind_of_text() {
         wanted.insert(format!(
             "false it was removed, and the removal stands in level {level}."
         ));
-        wanted.insert(format!("false the fault stands in level {level}."));
+    }
+    for (number, levels) in [(10, 0..1), (11, 0..1), (12, 1..4), (13, 1..3)] {
+        wanted.extend(levels.map(|level| format!("reply={number} level={level}")));
     }
     assert_eq!(kinds, wanted);
     let texts: String = inputs().iter().map(|input| input.told().text).collect();
     assert!(texts.contains("level=1 page=1 slot=") && texts.contains("level=2 page=1 slot="));
+    let fault_at = |place: &str| {
+        let mut firsts = texts.lines().filter(|line| line.starts_with("reply="));
+        assert!(firsts.any(|line| line.ends_with(place)), "{place}");
+    };
+    ["page=0 slot=0", "page=0 slot=1", "page=1 slot=0"]
+        .iter()
+        .for_each(|place| fault_at(place));
     assert!(
         texts.lines().any(|line| line == "level=1 page=0"),
         "no page without a slot"

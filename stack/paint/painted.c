@@ -16,20 +16,22 @@ static uint32_t seen[CALLS];
 
 /* A bit for each reply that a call may give; none for one whose result is not a reply. */
 #define REPLY(number) (1u << (number))
-#define ASKED (REPLY(LANDING_DONE) | REPLY(LANDING_RANGE) | REPLY(LANDING_LENGTH) | REPLY(LANDING_FAULT))
+#define OPENED (REPLY(LANDING_DONE) | REPLY(LANDING_RANGE) | REPLY(LANDING_LENGTH))
+#define WALKED (OPENED | REPLY(LANDING_DIRECTORY) | REPLY(LANDING_HEAD) | REPLY(LANDING_PAGE) | REPLY(LANDING_LEVEL))
+#define TESTED (WALKED | REPLY(LANDING_KINDS))
 
 static const struct {
     const char *name;
     void (*address)(void);
     uint32_t replies;
 } calls[CALLS] = {
-    [FORMAT] = {"format", (void (*)(void))landing_format, REPLY(LANDING_DONE) | REPLY(LANDING_RANGE) | REPLY(LANDING_LENGTH)},
-    [PUT] = {"put", (void (*)(void))landing_put, ASKED | REPLY(LANDING_HELD) | REPLY(LANDING_FULL)},
-    [DROP] = {"drop", (void (*)(void))landing_drop, ASKED | REPLY(LANDING_MISSING)},
-    [ASK] = {"ask", (void (*)(void))landing_ask, ASKED},
-    [WHY] = {"why", (void (*)(void))landing_why, ASKED},
-    [LIST] = {"list", (void (*)(void))landing_list, ASKED},
-    [CHECK] = {"check", (void (*)(void))landing_check, ASKED},
+    [FORMAT] = {"format", (void (*)(void))landing_format, OPENED},
+    [PUT] = {"put", (void (*)(void))landing_put, TESTED | REPLY(LANDING_HELD) | REPLY(LANDING_FULL)},
+    [DROP] = {"drop", (void (*)(void))landing_drop, TESTED | REPLY(LANDING_MISSING)},
+    [ASK] = {"ask", (void (*)(void))landing_ask, WALKED},
+    [WHY] = {"why", (void (*)(void))landing_why, WALKED},
+    [LIST] = {"list", (void (*)(void))landing_list, TESTED},
+    [CHECK] = {"check", (void (*)(void))landing_check, TESTED},
     [STORE_WORDS] = {"store_words", (void (*)(void))landing_store_words, 0},
     [WORK_WORDS] = {"work_words", (void (*)(void))landing_work_words, 0},
 };
@@ -56,7 +58,7 @@ bool all_replies_seen(void)
 {
     bool all = true;
     for (int call = 0; call < CALLS; call++)
-        for (uint32_t reply = 0; reply <= LANDING_FAULT; reply++)
+        for (uint32_t reply = 0; reply <= LANDING_KINDS; reply++)
             if (((calls[call].replies ^ seen[call]) & REPLY(reply)) != 0) {
                 fprintf(stderr, "paint: %s and reply %u: not as include/landing.h says\n", calls[call].name, reply);
                 all = false;

@@ -12,6 +12,16 @@ pub struct Entry {
     pub normal: bool,
 }
 
+impl Entry {
+    /// The entry in a slot that holds one.
+    pub fn of_slot(slot: &[u32]) -> Entry {
+        Entry {
+            pair: slot_key(slot),
+            normal: slot[2] & 1 == 0,
+        }
+    }
+}
+
 /// The index entries of a level's pages, or of the head, in order.
 pub struct Entries<'a> {
     pages: ChunksExact<'a, u32>,
@@ -43,10 +53,7 @@ impl Iterator for Entries<'_> {
         loop {
             for slot in self.slots.by_ref() {
                 if !is_fence(slot[2]) {
-                    return Some(Entry {
-                        pair: slot_key(slot),
-                        normal: slot[2] & 1 == 0,
-                    });
+                    return Some(Entry::of_slot(slot));
                 }
             }
             self.slots = slots(self.pages.next()?).chunks_exact(SLOT_WORDS);

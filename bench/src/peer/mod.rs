@@ -6,6 +6,7 @@
 
 mod edit;
 mod entries;
+mod fault;
 mod listing;
 mod merge;
 mod plan;
@@ -22,15 +23,19 @@ const HELD: u32 = 2;
 const MISSING: u32 = 3;
 const FULL: u32 = 4;
 const LENGTH: u32 = 5;
-const FAULT: u32 = 6;
+const DIRECTORY: u32 = 10;
+const HEAD: u32 = 11;
+const PAGE: u32 = 12;
+const LEVEL: u32 = 13;
+const KINDS: u32 = 14;
 
 /// What an accepted put or drop returns.
 type Values = [u32; 7];
 
-/// A reply that is not done, and the level that comes with it.
+/// A reply that is not done, and the level, page and slot of a fault, from 10 to 14.
 struct Refusal {
     number: u32,
-    level: u32,
+    place: [u32; 3],
 }
 
 /// The key of a pair.
@@ -71,10 +76,10 @@ pub fn drop(
 
 /// Asks for a pair: held or not, and the deciding level.
 #[inline(never)]
-pub fn ask(store: &[u32], badge: u32, floor: u32, out: &mut [u32; 2]) -> u32 {
+pub fn ask(store: &[u32], badge: u32, floor: u32, out: &mut [u32; 3]) -> u32 {
     let answer = Plan::open(store).and_then(|plan| {
-        let found = walk::find(store, &plan, key(badge, floor)).map_err(fault)?;
-        Ok([u32::from(found.held), found.level])
+        let found = walk::find(store, &plan, key(badge, floor))?;
+        Ok([u32::from(found.held), found.level, 0])
     });
     tell(answer, out)
 }
@@ -86,22 +91,23 @@ pub fn list(
     first: (u32, u32),
     last: (u32, u32),
     slice: &mut [u32],
-    out: &mut [u32; 2],
+    out: &mut [u32; 3],
 ) -> u32 {
     let answer = Plan::open(store).and_then(|plan| {
-        whole::test(store, &plan).map_err(fault)?;
+        whole::test(store, &plan)?;
         let (first, last) = (key(first.0, first.1), key(last.0, last.1));
-        Ok(listing::list(store, &plan, first, last, slice))
+        let [pairs, mark] = listing::list(store, &plan, first, last, slice);
+        Ok([pairs, mark, 0])
     });
     tell(answer, out)
 }
 
 /// Tests the whole store.
 #[inline(never)]
-pub fn check(store: &[u32], out: &mut [u32; 1]) -> u32 {
+pub fn check(store: &[u32], out: &mut [u32; 3]) -> u32 {
     let answer = Plan::open(store).and_then(|plan| {
-        whole::test(store, &plan).map_err(fault)?;
-        Ok([0])
+        whole::test(store, &plan)?;
+        Ok([0; 3])
     });
     tell(answer, out)
 }
@@ -112,7 +118,7 @@ fn change(store: &mut [u32], work: &mut [u32], pair: Key, put: bool) -> Result<V
     if work.len() != plan.work_words {
         return Err(refuse(LENGTH));
     }
-    let found = walk::find(store, &plan, pair).map_err(fault)?;
+    let found = walk::find(store, &plan, pair)?;
     let live = store[LIVE];
     if put && found.held {
         return Err(refuse(HELD));
@@ -124,7 +130,7 @@ fn change(store: &mut [u32], work: &mut [u32], pair: Key, put: bool) -> Result<V
         return Err(refuse(FULL));
     }
     if !put && live == 0 {
-        return Err(fault(plan.levels as u32));
+        return Err(refuse(KINDS));
     }
     let after = if put { live + 1 } else { live - 1 };
     if found.level == 0 {
@@ -132,7 +138,7 @@ fn change(store: &mut [u32], work: &mut [u32], pair: Key, put: bool) -> Result<V
     } else if found.entries + 1 < plan.capacities[0] {
         edit::add(store, found.reach, pair, put);
     } else {
-        let mut counts = whole::test(store, &plan).map_err(fault)?;
+        let mut counts = whole::test(store, &plan)?;
         edit::add(store, found.reach, pair, put);
         store[LIVE] = after;
         let merged = merge::settle(store, work, &plan, &mut counts);
@@ -157,7 +163,7 @@ fn tell<const N: usize>(answer: Result<[u32; N], Refusal>, out: &mut [u32; N]) -
         }
         Err(refusal) => {
             *out = [0; N];
-            out[0] = refusal.level;
+            out[..3].copy_from_slice(&refusal.place);
             refusal.number
         }
     }
@@ -165,13 +171,11 @@ fn tell<const N: usize>(answer: Result<[u32; N], Refusal>, out: &mut [u32; N]) -
 
 /// A refusal that returns zeros.
 fn refuse(number: u32) -> Refusal {
-    Refusal { number, level: 0 }
+    fault(number, 0, 0, 0)
 }
 
-/// Reply 6 with its level.
-fn fault(level: u32) -> Refusal {
-    Refusal {
-        number: FAULT,
-        level,
-    }
+/// A refusal with the place of a fault.
+fn fault(number: u32, level: usize, page: usize, slot: usize) -> Refusal {
+    let place = [level, page, slot].map(|number| number as u32);
+    Refusal { number, place }
 }

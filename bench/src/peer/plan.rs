@@ -91,6 +91,11 @@ impl Plan {
         &store[self.starts[level]..][..PAGE_WORDS * pages]
     }
 
+    /// The words of a page.
+    pub fn page<'a>(&self, store: &'a [u32], level: usize, page: usize) -> &'a [u32] {
+        &store[self.starts[level] + PAGE_WORDS * page..][..PAGE_WORDS]
+    }
+
     /// The words of all pages that the directory gives a level, of which there are none below the
     /// bottom; page counts have been tested.
     pub fn level<'a>(&self, store: &'a [u32], level: usize) -> &'a [u32] {

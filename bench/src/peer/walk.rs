@@ -1,10 +1,10 @@
 //! Finding: the head, then one page of each lower level, each tested in the pass that reads it.
 
 use super::plan::{
-    is_fence, slot_key, slots, Plan, HEAD_COUNT, LIVE, PAGE_COUNTS, PAGE_SLOTS, PAGE_WORDS,
-    SLOT_WORDS, ZERO_WORD,
+    is_fence, slot_key, slots, Plan, HEAD_COUNT, LIVE, PAGE_COUNTS, PAGE_SLOTS, SLOT_WORDS,
+    ZERO_WORD,
 };
-use super::Key;
+use super::{fault, refuse, Key, Refusal, DIRECTORY, HEAD, LEVEL, PAGE};
 
 /// What a walk finds, and what the pass over the head told on the way.
 pub struct Found {
@@ -16,10 +16,13 @@ pub struct Found {
 }
 
 /// What a pass over a run of slots tells.
-struct Scan {
-    formed: bool,
-    in_turn: bool,
+pub struct Scan {
+    /// Whether each slot is right, and how many stand before the first that is not.
+    right: bool,
+    before: usize,
     fences: u32,
+    entries: u32,
+    /// The slots whose pair is at most the pair asked.
     reach: usize,
 }
 
@@ -30,21 +33,19 @@ enum Told {
     Nothing,
 }
 
-/// Walks to a pair; the error is the level of the first fault met.
-pub fn find(store: &[u32], plan: &Plan, asked: Key) -> Result<Found, u32> {
-    let head = plan.head(store);
-    let scan = scan(head, asked, false, store[PAGE_COUNTS + 1]);
-    let entries = (head.len() / SLOT_WORDS) as u32 - scan.fences;
-    if !directory_right(store, plan) || !head_right(store, plan, head, &scan, entries) {
-        return Err(0);
+/// Walks to a pair; the error is the first fault met.
+pub fn find(store: &[u32], plan: &Plan, asked: Key) -> Result<Found, Refusal> {
+    if !directory_right(store, plan) {
+        return Err(refuse(DIRECTORY));
     }
+    let head = read_head(store, plan, asked)?;
     let mut found = Found {
         held: false,
         level: plan.levels as u32,
-        reach: scan.reach,
-        entries,
+        reach: head.reach,
+        entries: head.entries,
     };
-    let mut told = tell(head, scan.reach, asked);
+    let mut told = tell(plan.head(store), head.reach, asked);
     for level in 1..=plan.levels {
         match told {
             Told::Decided(held) => {
@@ -53,7 +54,7 @@ pub fn find(store: &[u32], plan: &Plan, asked: Key) -> Result<Found, u32> {
                 break;
             }
             Told::Follow(page) if level < plan.levels => {
-                told = tell_page(store, plan, level, page, asked).ok_or(level as u32)?;
+                told = tell_page(store, plan, level, page, asked)?;
             }
             _ => break,
         }
@@ -71,56 +72,96 @@ pub fn directory_right(store: &[u32], plan: &Plan) -> bool {
     store[LIVE] <= plan.most() && (1..4).all(pages_right) && store[ZERO_WORD] == 0
 }
 
-/// Whether the head is as a walk wants it, after a pass over its slots.
-fn head_right(store: &[u32], plan: &Plan, head: &[u32], scan: &Scan, entries: u32) -> bool {
+/// A pass over the head; the error is its first fault. It is made in line with the walk, although
+/// `first_fault` makes it too.
+#[inline(always)]
+pub fn read_head(store: &[u32], plan: &Plan, asked: Key) -> Result<Scan, Refusal> {
+    let (head, below) = (plan.head(store), store[PAGE_COUNTS + 1]);
+    let scan = scan(head, asked, |tag, so_far| {
+        if is_fence(tag) {
+            (tag == 4 * so_far.fences + 2) & (so_far.fences < below)
+        } else {
+            (tag < 2) & (so_far.entries + 1 < plan.capacities[0])
+        }
+    });
     let opens_right = !head.is_empty() && is_fence(head[2]) && slot_key(head) == 0;
-    store[HEAD_COUNT] as usize <= plan.head_room
-        && entries < plan.capacities[0]
-        && scan.formed
-        && scan.in_turn
-        && scan.fences == store[PAGE_COUNTS + 1]
-        && opens_right
+    if store[HEAD_COUNT] as usize > plan.head_room || !opens_right {
+        Err(fault(HEAD, 0, 0, 0))
+    } else if !scan.right {
+        Err(fault(HEAD, 0, 0, scan.before))
+    } else if scan.fences < below {
+        Err(fault(HEAD, 0, 0, 0))
+    } else {
+        Ok(scan)
+    }
 }
 
-/// What a page says of a pair, or none if it is not as a walk wants it.
-fn tell_page(store: &[u32], plan: &Plan, level: usize, page: usize, asked: Key) -> Option<Told> {
-    let words = &store[plan.starts[level] + PAGE_WORDS * page..][..PAGE_WORDS];
+/// A pass over a page of a lower level: its slots at most the pair asked; the error is the first fault
+/// of its form. It is made in line, as that over the head.
+#[inline(always)]
+pub fn read_page(
+    store: &[u32],
+    plan: &Plan,
+    level: usize,
+    page: usize,
+    asked: Key,
+) -> Result<usize, Refusal> {
+    let words = plan.page(store, level, page);
     let bottom = level == plan.bottom();
     let below = if bottom {
         0
     } else {
         store[PAGE_COUNTS + level + 1]
     };
-    let run = slots(words);
-    let scan = scan(run, asked, true, below);
+    let scan = scan(slots(words), asked, |tag, _| {
+        tag / 4 < if is_fence(tag) { below } else { 1 }
+    });
     let count = words[0] as usize;
     let may_be_empty = bottom && store[PAGE_COUNTS + level] == 1;
-    let right = scan.formed && count <= PAGE_SLOTS && (count >= 1 || may_be_empty);
-    let opens_right = || bottom || is_fence(run[2]) && slot_key(run) <= asked;
-    (right && opens_right()).then(|| tell(run, scan.reach, asked))
+    if count > PAGE_SLOTS || count == 0 && !may_be_empty {
+        Err(fault(PAGE, level, page, 0))
+    } else if !scan.right {
+        Err(fault(PAGE, level, page, scan.before))
+    } else {
+        Ok(scan.reach)
+    }
 }
 
-/// A pass over slots whose fences may name the pages below that number, internal ones only where
-/// `inner`: slot order, legal tags, fences in turn, and the slots at most the pair asked.
-fn scan(run: &[u32], asked: Key, inner: bool, below: u32) -> Scan {
+/// What a page says of a pair; the error is the first fault of its form, or its first slot.
+fn tell_page(
+    store: &[u32],
+    plan: &Plan,
+    level: usize,
+    page: usize,
+    asked: Key,
+) -> Result<Told, Refusal> {
+    let reach = read_page(store, plan, level, page, asked)?;
+    let run = slots(plan.page(store, level, page));
+    if level < plan.bottom() && !(is_fence(run[2]) && slot_key(run) <= asked) {
+        return Err(fault(LEVEL, level, page, 0));
+    }
+    Ok(tell(run, reach, asked))
+}
+
+/// A pass over slots, whose tags are to be allowed: slot order, the slots before the first wrong one, and
+/// those at most the pair asked.
+fn scan(run: &[u32], asked: Key, allowed: impl Fn(u32, &Scan) -> bool) -> Scan {
     let mut scan = Scan {
-        formed: true,
-        in_turn: true,
+        right: true,
+        before: 0,
         fences: 0,
+        entries: 0,
         reach: 0,
     };
     let (mut last, mut last_fence) = (0, true);
     for slot in run.chunks_exact(SLOT_WORDS) {
         let (pair, tag) = (slot_key(slot), slot[2]);
         let fence = is_fence(tag);
-        let legal = if fence {
-            tag / 4 < below && (inner || tag & 1 == 0)
-        } else {
-            tag < 2
-        };
-        scan.formed &= legal & (last < pair || last == pair && last_fence);
-        scan.in_turn &= !fence || tag / 4 == scan.fences;
+        let in_order = (last < pair) | (last == pair) & last_fence;
+        scan.right &= allowed(tag, &scan) & in_order;
+        scan.before += usize::from(scan.right);
         scan.fences += u32::from(fence);
+        scan.entries += u32::from(!fence);
         scan.reach += usize::from(pair <= asked);
         (last, last_fence) = (pair, fence);
     }

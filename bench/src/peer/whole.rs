@@ -1,33 +1,36 @@
 //! The whole-store test: the directory, the head and each level from the top, each in one pass,
-//! then kinds, alternation and live across levels.
+//! then kinds, alternation and live across levels. Only a store that fails it is looked at again, for
+//! the first fault.
 
 use super::entries::Merged;
+use super::fault::first_fault;
 use super::plan::{
     fence_key, is_fence, slot_key, slots, Plan, HEAD_COUNT, HEAD_SLOTS, LIVE, ONES, PAGE_COUNTS,
     PAGE_SLOTS, PAGE_WORDS, SLOT_WORDS,
 };
 use super::walk::directory_right;
-use super::Key;
+use super::{refuse, Key, Refusal, DIRECTORY};
 
-/// The index entries of each level of a sound store; the error is the level that reply 6 tells.
-pub fn test(store: &[u32], plan: &Plan) -> Result<[u32; 4], u32> {
+/// The index entries of each level of a sound store; the error is the first fault.
+pub fn test(store: &[u32], plan: &Plan) -> Result<[u32; 4], Refusal> {
     if !directory_right(store, plan) {
-        return Err(0);
+        return Err(refuse(DIRECTORY));
     }
+    let counts = sound_entries(store, plan).filter(|_| across_right(store, plan));
+    counts.ok_or_else(|| first_fault(store, plan))
+}
+
+/// The index entries of each level of a store whose levels are sound by themselves.
+fn sound_entries(store: &[u32], plan: &Plan) -> Option<[u32; 4]> {
     let mut counts = [0; 4];
     for (level, entries) in counts.iter_mut().enumerate().take(plan.levels) {
-        let sound = match level {
-            0 => head_entries(store, plan),
-            _ if level < plan.bottom() => level_entries(store, plan, level),
-            _ => bottom_entries(store, plan),
+        *entries = match level {
+            0 => head_entries(store, plan)?,
+            _ if level < plan.bottom() => level_entries(store, plan, level)?,
+            _ => bottom_entries(store, plan)?,
         };
-        *entries = sound.ok_or(level as u32)?;
     }
-    if across_right(store, plan) {
-        Ok(counts)
-    } else {
-        Err(plan.levels as u32)
-    }
+    Some(counts)
 }
 
 /// The entries of a head that is sound by itself.

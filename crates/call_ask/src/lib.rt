@@ -6,6 +6,7 @@ ghost use Rattle.opening.specs.Opening.{Opens};
 ghost use Rattle.opening.specs.declared.Opened.the-variants.{Store};
 ghost use Rattle.call_ask.specs.Ask.{askReply, walkReply, askOf};
 use fault::Fault;
+use fault::number_of;
 use geometry::Geometry;
 use laws::one_if;
 use opening::Opened;
@@ -36,8 +37,7 @@ fn ask_open(store: &[u32], g: Geometry, pair: Pair) -> Asked
     requires { ⌜ Opens (now store) (Store g) ⌝ }
     ensures { λ r. ⌜ askReply r ≡ walkReply (walked g (now (store .entry)) pair) ⌝ }
 {
-    let plan = geometry::plan_for(g);
-    asked_from(walk::walk_down(store, g, plan, pair))
+    asked_from(walk::walk_down(store, g, pair))
 }
 
 // What a walk answers.
@@ -50,10 +50,10 @@ pub fn asked_from(walked: Walked) -> Asked
     }
 }
 
-// The number of ask's reply, and its values: 1 held or 0, and the deciding level.
+// The number of ask's reply, and its values: 1 held or 0, the deciding level, and 0; of a fault its place.
 pub struct AskReply {
     pub number: u32,
-    pub values: [u32; 2],
+    pub values: [u32; 3],
 }
 
 // The reply by number, as the paper has it.
@@ -63,19 +63,22 @@ pub fn ask_reply(asked: Asked) -> AskReply
     match asked {
         Asked::Answer(held, level) => AskReply {
             number: 0,
-            values: [one_if(held), level],
+            values: [one_if(held), level, 0],
         },
         Asked::Range => AskReply {
             number: 1,
-            values: [0, 0],
+            values: [0, 0, 0],
         },
         Asked::Length => AskReply {
             number: 5,
-            values: [0, 0],
+            values: [0, 0, 0],
         },
-        Asked::Fault(fault) => AskReply {
-            number: 6,
-            values: [fault.level, 0],
-        },
+        Asked::Fault(fault) => {
+            let part = fault.part;
+            AskReply {
+                number: number_of(part),
+                values: [fault.level, fault.page, fault.slot],
+            }
+        }
     }
 }

@@ -1,18 +1,20 @@
 // Check and list, which test the whole store. Any words may be the store.
 ghost use mathlib.Core.Path.{_≡_};
 ghost use Rattle.rules.specs.Listing.{list};
-ghost use Rattle.rules.specs.Sound.{treeOf, fault};
+ghost use Rattle.rules.specs.Sound.{treeOf};
+ghost use Rattle.rules.specs.Faults.{fault};
 ghost use Rattle.opening.specs.Reply.{replied};
 ghost use Rattle.opening.specs.Opening.{Opens};
 ghost use Rattle.opening.specs.declared.Opened.the-variants.{Store};
 ghost use Rattle.call_check.specs.Check.{checkReply, judgedReply, checkOf};
 ghost use Rattle.call_check.specs.List.{shownReply, listReply, testedReply, listOf};
 use fault::Fault;
+use fault::Judged;
+use fault::number_of;
 use geometry::Geometry;
 use listing::list_pairs;
 use opening::Opened;
 use slot::Pair;
-use sound::Whole;
 
 // What check answers: that the store is sound, or why it was refused.
 pub enum Checked {
@@ -40,8 +42,8 @@ fn check_open(store: &[u32], g: Geometry) -> Checked
 {
     let plan = geometry::plan_for(g);
     match sound::whole_fault(store, g, plan) {
-        Whole::Sound => Checked::Done,
-        Whole::Fault(fault) => Checked::Fault(fault),
+        Judged::Sound => Checked::Done,
+        Judged::FaultAt(fault) => Checked::Fault(fault),
     }
 }
 
@@ -71,18 +73,18 @@ fn list_open(store: &[u32], g: Geometry, first: Pair, second: Pair, out: &mut [u
 {
     let plan = geometry::plan_for(g);
     match sound::whole_fault(store, g, plan) {
-        Whole::Fault(fault) => Shown::Fault(fault),
-        Whole::Sound => {
+        Judged::FaultAt(fault) => Shown::Fault(fault),
+        Judged::Sound => {
             let listed = list_pairs(store, g, plan, first, second, out);
             Shown::Pairs(listed.pairs, listed.mark)
         }
     }
 }
 
-// The number of check's reply, and its value.
+// The number of check's reply, and its values: zeros; of a fault its place.
 pub struct CheckReply {
     pub number: u32,
-    pub values: [u32; 1],
+    pub values: [u32; 3],
 }
 
 // The reply by number, as the paper has it.
@@ -92,27 +94,30 @@ pub fn check_reply(checked: Checked) -> CheckReply
     match checked {
         Checked::Done => CheckReply {
             number: 0,
-            values: [0],
+            values: [0, 0, 0],
         },
         Checked::Range => CheckReply {
             number: 1,
-            values: [0],
+            values: [0, 0, 0],
         },
         Checked::Length => CheckReply {
             number: 5,
-            values: [0],
+            values: [0, 0, 0],
         },
-        Checked::Fault(fault) => CheckReply {
-            number: 6,
-            values: [fault.level],
-        },
+        Checked::Fault(fault) => {
+            let part = fault.part;
+            CheckReply {
+                number: number_of(part),
+                values: [fault.level, fault.page, fault.slot],
+            }
+        }
     }
 }
 
-// The number of list's reply, and its values: the pairs written and the mark.
+// The number of list's reply, and its values: the pairs written, the mark, and 0; of a fault its place.
 pub struct ListReply {
     pub number: u32,
-    pub values: [u32; 2],
+    pub values: [u32; 3],
 }
 
 // The reply by number, as the paper has it.
@@ -122,19 +127,22 @@ pub fn list_reply(shown: Shown) -> ListReply
     match shown {
         Shown::Pairs(pairs, mark) => ListReply {
             number: 0,
-            values: [pairs, mark],
+            values: [pairs, mark, 0],
         },
         Shown::Range => ListReply {
             number: 1,
-            values: [0, 0],
+            values: [0, 0, 0],
         },
         Shown::Length => ListReply {
             number: 5,
-            values: [0, 0],
+            values: [0, 0, 0],
         },
-        Shown::Fault(fault) => ListReply {
-            number: 6,
-            values: [fault.level, 0],
-        },
+        Shown::Fault(fault) => {
+            let part = fault.part;
+            ListReply {
+                number: number_of(part),
+                values: [fault.level, fault.page, fault.slot],
+            }
+        }
     }
 }

@@ -7,12 +7,15 @@ use mathlib.Core.List.{List, [], _∷_, _++_}
 use lib.ListN.{getD, drop}
 use lib.Dec.{ltb, eqb}
 use Rattle.fault.specs.declared.Fault.{Fault as FaultOf}
+use Rattle.fault.specs.declared.Part.the-variants.{Kinds}
+use Rattle.fault.specs.Numbers.{noPlace}
 use Rattle.geometry.specs.declared.Geometry.{Geometry}
 use Rattle.geometry.specs.Geometry.{most}
 use Rattle.geometry.specs.Places.{liveWord}
 use Rattle.slot.specs.declared.Pair.{Pair}
 use Rattle.geometry.specs.Directory.{geometryOf}
-use Rattle.rules.specs.Sound.{Judged, sound, faultAt, inLevel}
+use Rattle.fault.specs.declared.Judged.{Judged}
+use Rattle.fault.specs.declared.Judged.the-variants.{Sound, FaultAt}
 use Rattle.walk.specs.declared.Walked.{Walked}
 use Rattle.walk.specs.declared.Walked.the-variants.{Found, Fault as Fault-of-walk}
 use Rattle.walk.specs.Walk.{walked}
@@ -23,7 +26,7 @@ use Rattle.change.specs.Change.{Changed, changeOf, told, outcomeFault, outcomeV
 use Rattle.call_put.specs.declared.Changed.{Changed as Answered}
 use Rattle.call_put.specs.declared.Edited.{Edited}
 use Rattle.call_put.specs.declared.Edited.the-variants.{Done, Range, Length, Fault, Held, Missing, Full}
-use Rattle.opening.specs.Reply.{Reply, replied, faultValues}
+use Rattle.opening.specs.Reply.{Reply, replied, faultNumber, faultValues}
 use Rattle.opening.specs.declared.Opened.the-variants.{Store}
 use Rattle.opening.specs.Opening.{openingBoth, OpensBoth}
 
@@ -36,12 +39,12 @@ pub record Kept : Type 0 where
 abbrev pub kept : ℕ → List ℕ → List ℕ → List ℕ → Kept
 kept number values store work = record { reply = replied number values; store = store; work = work }
 
--- Live pairs, the deepest level merged into, pages written and the index entries in each level; a refusal returns zeros, but 6 the fault's values.
+-- Live pairs, the deepest level merged into, pages written and the index entries in each level; a refusal returns zeros, but a fault its place.
 abbrev pub editedReply : Edited → List ℕ → Reply
 editedReply (Done live deepest pages) counts = replied 0 (live ∷ deepest ∷ pages ∷ counts)
 editedReply Range counts = replied 1 (0 ∷ 0 ∷ 0 ∷ counts)
 editedReply Length counts = replied 5 (0 ∷ 0 ∷ 0 ∷ counts)
-editedReply (Fault fault) counts = replied 6 (faultValues fault ++ 0 ∷ 0 ∷ counts)
+editedReply (Fault fault) counts = replied (faultNumber fault) (faultValues fault ++ counts)
 editedReply Held counts = replied 2 (0 ∷ 0 ∷ 0 ∷ counts)
 editedReply Missing counts = replied 3 (0 ∷ 0 ∷ 0 ∷ counts)
 editedReply Full counts = replied 4 (0 ∷ 0 ∷ 0 ∷ counts)
@@ -54,12 +57,12 @@ abbrev pub zeros : List ℕ
 zeros = 0 ∷ 0 ∷ 0 ∷ 0 ∷ 0 ∷ 0 ∷ 0 ∷ []
 
 abbrev pub faulty : FaultOf → List ℕ
-faulty f = faultValues f ++ 0 ∷ 0 ∷ 0 ∷ 0 ∷ 0 ∷ 0 ∷ []
+faulty f = faultValues f ++ 0 ∷ 0 ∷ 0 ∷ 0 ∷ []
 
 -- A change that the whole-store test refuses before a merge, or that is done.
 abbrev pub changeReply : Judged → List ℕ → List ℕ → List ℕ → Kept
-changeReply sound values store work = kept 0 values store work
-changeReply (faultAt f) values store work = kept 6 (faultValues f ++ drop 1 values) store work
+changeReply Sound values store work = kept 0 values store work
+changeReply (FaultAt f) values store work = kept (faultNumber f) (faultValues f ++ drop 3 values) store work
 
 abbrev pub changedReply : Changed → Kept
 changedReply c = changeReply (c .fault) (c .values) (c .store) (c .work)
@@ -83,14 +86,14 @@ module _ (w work : List ℕ) where
             ]
       ]
 
-  -- Drop of such a pair: 3 if it is not held, then 6 with level l if live = 0.
+  -- Drop of such a pair: 3 if it is not held, then 14 without a place if live = 0.
   unfoldable pub dropFound : Pair → Bool → ℕ → Kept
   dropFound p held level =
       elim held [
         | true ↦
             elim (ltb 0 live) [
               | true ↦ changedReply (changeOf g (record { pair = p; normal = false }) (eqb level 0) w work)
-              | false ↦ kept 6 (faulty (inLevel (g .levels))) w work
+              | false ↦ kept (faultNumber (noPlace Kinds)) (faulty (noPlace Kinds)) w work
             ]
         | false ↦ kept 3 zeros w work
       ]
@@ -98,7 +101,7 @@ module _ (w work : List ℕ) where
   -- The walk's own fault comes before both.
   abbrev pub afterWalk : Walked → (Bool → ℕ → Kept) → Kept
   afterWalk (Found held level) found = found held level
-  afterWalk (Fault-of-walk fault) found = kept 6 (faulty fault) w work
+  afterWalk (Fault-of-walk fault) found = kept (faultNumber fault) (faulty fault) w work
 
   -- The opening tests come before all.
   abbrev pub afterOpening : ℕ → Kept → Kept
@@ -131,7 +134,7 @@ module _ (w work : List ℕ) where
     pub edit-opened : (h : Geometry) → OpensBoth w work (Store h) → afterWalk (walked h w p) (foundOf normal p) ≡ editOf normal p
     edit-opened h o = rw (o .2 .1) (edit-walked (o .0))
 
-    pub walk-faulty : {found : Walked} {f : FaultOf} → found ≡ Fault-of-walk f → kept 6 (faulty f) w work ≡ afterWalk found (foundOf normal p)
+    pub walk-faulty : {found : Walked} {f : FaultOf} → found ≡ Fault-of-walk f → kept (faultNumber f) (faulty f) w work ≡ afterWalk found (foundOf normal p)
     walk-faulty e = rw e
 
     pub walk-found : {found : Walked} {held : Bool} {level : ℕ} → found ≡ Found held level → foundOf normal p held level ≡ afterWalk found (foundOf normal p)
@@ -156,7 +159,7 @@ module _ (w work : List ℕ) where
     unfolding dropFound
     drop-missing held h = rw (h, dropFound)
 
-    pub drop-none : (held : Bool) → held ≡ true → ltb 0 live ≡ false → kept 6 (faulty (inLevel (g .levels))) w work ≡ dropFound p held level
+    pub drop-none : (held : Bool) → held ≡ true → ltb 0 live ≡ false → kept (faultNumber (noPlace Kinds)) (faulty (noPlace Kinds)) w work ≡ dropFound p held level
     unfolding dropFound
     drop-none held h f = rw (h, f, dropFound)
 

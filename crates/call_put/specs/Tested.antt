@@ -8,12 +8,14 @@ use lib.ListN.{getD}
 use lib.Dec.{ltb, eqb}
 use borrow.Author.Tests.{ltb-true, lt-ltb, le-ltb}
 use Rattle.fault.specs.declared.Fault.{Fault as FaultOf}
+use Rattle.fault.specs.declared.Part.the-variants.{Kinds}
+use Rattle.fault.specs.Numbers.{noPlace}
+use Rattle.opening.specs.Reply.{faultNumber}
 use Rattle.geometry.specs.declared.Geometry.{Geometry}
 use Rattle.geometry.specs.Geometry.{most}
 use Rattle.geometry.specs.Places.{liveWord}
 use Rattle.slot.specs.declared.Pair.{Pair}
 use Rattle.geometry.specs.Directory.{geometryOf}
-use Rattle.rules.specs.Sound.{inLevel}
 use Rattle.walk.specs.declared.Walked.the-variants.{Found}
 use Rattle.walk.specs.Walk.{walked}
 use Rattle.change.specs.Change.{changeOf}
@@ -28,14 +30,14 @@ use Rattle.call_put.specs.Edit.{Kept, kept, editReply, zeros, faulty, ch
 unfoldable pub putTested : Bool → ℕ → ℕ → Tested
 putTested held live most = elim held [ true ↦ Refused Held | false ↦ elim (ltb live most) [ true ↦ Passed | false ↦ Refused Full ] ]
 
--- A drop of a pair not held is refused, and then one with live = 0, as a fault of level l.
-unfoldable pub dropTested : Bool → ℕ → ℕ → Tested
-dropTested held live levels =
-    elim held [ true ↦ elim (ltb 0 live) [ true ↦ Passed | false ↦ Refused (Fault (inLevel levels)) ] | false ↦ Refused Missing ]
+-- A drop of a pair not held is refused, and then one with live = 0, as a fault of kinds without a place.
+unfoldable pub dropTested : Bool → ℕ → Tested
+dropTested held live =
+    elim held [ true ↦ elim (ltb 0 live) [ true ↦ Passed | false ↦ Refused (Fault (noPlace Kinds)) ] | false ↦ Refused Missing ]
 
 unfoldable pub testedOf : Geometry → List ℕ → Bool → Bool → Tested
 testedOf g w true held = putTested held (getD w liveWord 0) (most g)
-testedOf g w false held = dropTested held (getD w liveWord 0) (g .levels)
+testedOf g w false held = dropTested held (getD w liveWord 0)
 
 -- By what the code tests.
 module _ (held : Bool) (live most : ℕ) where
@@ -52,17 +54,17 @@ module _ (held : Bool) (live most : ℕ) where
     unfolding putTested
     put-fits f = rw (h, lt-ltb live most f, putTested)
 
-module _ (held : Bool) (live levels : ℕ) where
-  pub drop-missing : held ≡ false → Refused Missing ≡ dropTested held live levels
+module _ (held : Bool) (live : ℕ) where
+  pub drop-missing : held ≡ false → Refused Missing ≡ dropTested held live
   unfolding dropTested
   drop-missing h = rw h
 
   module _ (h : held ≡ true) where
-    pub drop-none : live ≡ 0 → Refused (Fault (inLevel levels)) ≡ dropTested held live levels
+    pub drop-none : live ≡ 0 → Refused (Fault (noPlace Kinds)) ≡ dropTested held live
     unfolding dropTested
     drop-none e = rw (h, le-ltb 0 live (omega (arith, e)), dropTested)
 
-    pub drop-some : (live ≡ 0 → ⊥) → Passed ≡ dropTested held live levels
+    pub drop-some : (live ≡ 0 → ⊥) → Passed ≡ dropTested held live
     unfolding dropTested
     drop-some n = rw (h, lt-ltb 0 live (omega (arith, n)), dropTested)
 
@@ -88,10 +90,10 @@ module _ (w work : List ℕ) (p : Pair) (level : ℕ) where
   tests-tell false true = by (ltb 0 (getD w liveWord 0))
     where
       none : FaultOf
-      none = inLevel (geometryOf w .levels)
+      none = noPlace Kinds
 
       by : (b : Bool) → byTests false (elim b as (λ _. Tested) [ true ↦ Passed | false ↦ Refused (Fault none) ]) ≡
-          elim b as (λ _. Kept) [ true ↦ changes false | false ↦ kept 6 (faulty none) w work ]
+          elim b as (λ _. Kept) [ true ↦ changes false | false ↦ kept (faultNumber none) (faulty none) w work ]
       by true = refl
       by false = refl
 
@@ -121,7 +123,7 @@ tests-accept g w p level stored true false e walks = by (ltb (getD w liveWord 0)
 tests-accept g w p level stored false false e walks = absurd (not-passed Missing e)
 tests-accept g w p level stored false true e walks = by (ltb 0 (getD w liveWord 0)) refl e
   where
-    by : (b : Bool) → ltb 0 (getD w liveWord 0) ≡ b → elim b as (λ _. Tested) [ true ↦ Passed | false ↦ Refused (Fault (inLevel (g .levels))) ] ≡ Passed →
+    by : (b : Bool) → ltb 0 (getD w liveWord 0) ≡ b → elim b as (λ _. Tested) [ true ↦ Passed | false ↦ Refused (Fault (noPlace Kinds)) ] ≡ Passed →
         Accepted g w (record { pair = p; normal = false }) level
     by true h q = record { stored = stored; walks = walks; room = λ n. absurd (true≢false (sym n)); some = λ n. ltb-true 0 (getD w liveWord 0) h }
-    by false h q = absurd (not-passed (Fault (inLevel (g .levels))) q)
+    by false h q = absurd (not-passed (Fault (noPlace Kinds)) q)

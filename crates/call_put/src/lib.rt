@@ -16,6 +16,8 @@ use change::Outcome;
 use change::Report;
 use entries::Entry;
 use fault::Fault;
+use fault::Part;
+use fault::number_of;
 use geometry::Geometry;
 use geometry::Plan;
 use opening::Opened;
@@ -78,7 +80,7 @@ fn edit_open(store: &mut [u32], work: &mut [u32], g: Geometry, entry: Entry) -> 
 {
     let plan = geometry::plan_for(g);
     let pair = entry.pair;
-    let survey = walk::walk_survey(store, g, plan, pair);
+    let survey = walk::walk_survey(store, g, pair);
     let walked = survey.walked;
     let head = survey.head;
     match walked {
@@ -132,7 +134,7 @@ fn test_found(store: &[u32], g: Geometry, plan: Plan, normal: bool, held: bool) 
         let most = geometry::at_level(capacities, g.levels - 1);
         return test_put(held, live, most);
     }
-    test_drop(held, live, g.levels)
+    test_drop(held, live)
 }
 
 // A put of a held pair is refused, and then one into a full store.
@@ -149,14 +151,19 @@ fn test_put(held: bool, live: u32, most: u32) -> Tested
 }
 
 // A drop of a pair not held is refused, and then one from a store with no live pairs.
-fn test_drop(held: bool, live: u32, levels: u32) -> Tested
-    ensures { λ r. ⌜ r ≡ dropTested held live levels ⌝ }
+fn test_drop(held: bool, live: u32) -> Tested
+    ensures { λ r. ⌜ r ≡ dropTested held live ⌝ }
 {
     if !held {
         return Tested::Refused(Edited::Missing);
     }
     if live == 0 {
-        return Tested::Refused(Edited::Fault(Fault { level: levels }));
+        return Tested::Refused(Edited::Fault(Fault {
+            part: Part::Kinds,
+            level: 0,
+            page: 0,
+            slot: 0,
+        }));
     }
     Tested::Passed
 }
@@ -189,8 +196,8 @@ fn unchanged(answer: Edited) -> Changed
     }
 }
 
-// The number of put's or drop's reply, and its values: live pairs, the deepest level merged into, the pages written, and the index entries in
-// each level.
+// The number of put's or drop's reply, and its values: live pairs, the deepest level merged into and the pages written, or the place of a
+// fault; and the index entries in each level.
 pub struct EditReply {
     pub number: u32,
     pub values: [u32; 7],
@@ -206,7 +213,16 @@ pub fn edit_reply(changed: Changed) -> EditReply
         Edited::Done(live, deepest, pages) => reply_of(0, live, deepest, pages, entries),
         Edited::Range => reply_of(1, 0, 0, 0, entries),
         Edited::Length => reply_of(5, 0, 0, 0, entries),
-        Edited::Fault(fault) => reply_of(6, fault.level, 0, 0, entries),
+        Edited::Fault(fault) => {
+            let part = fault.part;
+            reply_of(
+                number_of(part),
+                fault.level,
+                fault.page,
+                fault.slot,
+                entries,
+            )
+        }
         Edited::Held => reply_of(2, 0, 0, 0, entries),
         Edited::Missing => reply_of(3, 0, 0, 0, entries),
         Edited::Full => reply_of(4, 0, 0, 0, entries),

@@ -207,15 +207,18 @@ fn edit(store: &mut [u32], work: &mut [u32], op: Op, badge: u32, floor: u32) -> 
     }
 }
 
-// The pages written, which are the third value. A refusal has 0 there.
+// The pages written, which are the third value. A refusal has written none.
 fn pages_of(reply: EditReply) -> u32 {
+    if reply.number != 0 {
+        return 0;
+    }
     reply.values[2]
 }
 
 fn edit_line(reply: EditReply) {
     let values = reply.values;
     if reply.number != 0 {
-        refusal_line(reply.number, values[0]);
+        refusal_line(reply.number, values[0], values[1], values[2]);
         return;
     }
     print_number(b": reply 0 live ", values[0]);
@@ -227,9 +230,11 @@ fn edit_line(reply: EditReply) {
     number_line(b" ", values[6]);
 }
 
-fn refusal_line(reply: u32, level: u32) {
+fn refusal_line(reply: u32, level: u32, page: u32, slot: u32) {
     print_number(b": reply ", reply);
-    number_line(b" level ", level);
+    print_number(b" level ", level);
+    print_number(b" page ", page);
+    number_line(b" slot ", slot);
 }
 
 // Asks for a badge with every page as it is, and then with page 0 and with page 1 of level 1 damaged.
@@ -258,7 +263,7 @@ fn ask_line(store: &[u32], badge: u32, floor: u32) {
     let reply = ask_reply(index::ask(store, pair(badge, floor)));
     let values = reply.values;
     if reply.number != 0 {
-        refusal_line(reply.number, values[0]);
+        refusal_line(reply.number, values[0], values[1], values[2]);
         return;
     }
     print_number(b": reply 0 held ", values[0]);
@@ -271,7 +276,7 @@ fn list_line(store: &[u32], first: u32, last: u32, slice: &mut [u32]) {
     let reply = list_reply(index::list(store, pair(first, 0), pair(last, 0), slice));
     let values = reply.values;
     if reply.number != 0 {
-        refusal_line(reply.number, values[0]);
+        refusal_line(reply.number, values[0], values[1], values[2]);
         return;
     }
     print_number(b": reply 0 pairs ", values[0]);

@@ -11,7 +11,10 @@ use Rattle.geometry.specs.Places.{liveWord, erased}
 use Rattle.rules.specs.Tree.{Entry}
 use Rattle.rules.specs.Merging.{edit, entries}
 use Rattle.rules.specs.Store.{writing}
-use Rattle.rules.specs.Sound.{headSlots, entriesOf, treeOf, Judged, sound, faultAt, fault}
+use Rattle.fault.specs.declared.Judged.{Judged}
+use Rattle.fault.specs.declared.Judged.the-variants.{Sound, FaultAt}
+use Rattle.rules.specs.Sound.{headSlots, entriesOf, treeOf}
+use Rattle.rules.specs.Faults.{fault}
 use Rattle.edit.specs.Head.{entryAdded, entryRemoved}
 use Rattle.good.specs.Edit.{liveAfter}
 use Rattle.edited.specs.Reach.{reach}
@@ -48,29 +51,29 @@ pub record Changed : Type 0 where
 unfoldable pub changedHead : Geometry → Entry → Bool → List ℕ → List ℕ → Changed
 changedHead g e own w work =
     let v = headEdited g e own w in
-    record { fault = sound; values = liveAfter (e .normal) (getD w liveWord 0) ∷ 0 ∷ 0 ∷ entries (treeOf g v); store = v; work = work }
+    record { fault = Sound; values = liveAfter (e .normal) (getD w liveWord 0) ∷ 0 ∷ 0 ∷ entries (treeOf g v); store = v; work = work }
 
 -- It is full: a store with a fault stays as it is, and a sound one is the writing of the state that the rules give. The work area is unused then.
 unfoldable pub stayed : Fault → List ℕ → List ℕ → Changed
-stayed f w work = record { fault = faultAt f; values = 0 ∷ 0 ∷ 0 ∷ 0 ∷ 0 ∷ 0 ∷ 0 ∷ []; store = w; work = work }
+stayed f w work = record { fault = FaultAt f; values = 0 ∷ 0 ∷ 0 ∷ 0 ∷ 0 ∷ 0 ∷ 0 ∷ []; store = w; work = work }
 
 unfoldable pub changedTree : Geometry → Entry → List ℕ → List ℕ → Changed
 changedTree g e w work =
     let live = liveAfter (e .normal) (getD w liveWord 0) in
     let s = edit g e (treeOf g w) in
     let v = writing g (record { live = live; tree = s .tree }) in
-    record { fault = sound; values = live ∷ s .deepest ∷ length (s .written) ∷ entries (treeOf g v); store = v; work = replicate (length work) erased }
+    record { fault = Sound; values = live ∷ s .deepest ∷ length (s .written) ∷ entries (treeOf g v); store = v; work = replicate (length work) erased }
 
 unfoldable pub mergedChange : Geometry → Entry → List ℕ → List ℕ → Changed
-mergedChange g e w work = elim (fault g w) [ sound ↦ changedTree g e w work | faultAt f ↦ stayed f w work ]
+mergedChange g e w work = elim (fault g w) [ Sound ↦ changedTree g e w work | FaultAt f ↦ stayed f w work ]
 
 unfoldable pub changeOf : Geometry → Entry → Bool → List ℕ → List ℕ → Changed
 changeOf g e own w work = elim (fillsHead g w own) [ true ↦ mergedChange g e w work | false ↦ changedHead g e own w work ]
 
 -- What the code returns, with the words that it leaves.
 abbrev pub outcomeFault : Outcome → Judged
-outcomeFault (Done live deepest pages) = sound
-outcomeFault (Faulty f) = faultAt f
+outcomeFault (Done live deepest pages) = Sound
+outcomeFault (Faulty f) = FaultAt f
 
 abbrev pub outcomeValues : Outcome → List ℕ → List ℕ
 outcomeValues (Done live deepest pages) counts = live ∷ deepest ∷ pages ∷ counts
@@ -95,10 +98,10 @@ module _ (g : Geometry) (e : Entry) (w work : List ℕ) where
   unfolding changeOf
   change-edits own h = rw (h, changeOf) refl
 
-  pub merge-stays : (f : Fault) → fault g w ≡ faultAt f → told (faultOn f) w work ≡ mergedChange g e w work
+  pub merge-stays : (f : Fault) → fault g w ≡ FaultAt f → told (faultOn f) w work ≡ mergedChange g e w work
   unfolding mergedChange stayed faultOn
   merge-stays f h = rw (h, mergedChange) refl
 
-  pub merge-goes-on : fault g w ≡ sound → changedTree g e w work ≡ mergedChange g e w work
+  pub merge-goes-on : fault g w ≡ Sound → changedTree g e w work ≡ mergedChange g e w work
   unfolding mergedChange
   merge-goes-on h = rw (h, mergedChange) refl

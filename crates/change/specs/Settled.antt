@@ -24,7 +24,9 @@ use Rattle.rules.specs.Level.{slotsOf}
 use Rattle.rules.specs.Finding.{held}
 use Rattle.rules.specs.Merging.{State, edit}
 use Rattle.rules.specs.Store.{writing}
-use Rattle.rules.specs.Sound.{headSlots, entriesOf, sound, fault}
+use Rattle.fault.specs.declared.Judged.the-variants.{Sound}
+use Rattle.rules.specs.Sound.{headSlots, entriesOf}
+use Rattle.rules.specs.Faults.{fault}
 use Rattle.rules.specs.Good.{Good, Cascading}
 use Rattle.walk.specs.declared.Walked.the-variants.{Found}
 use Rattle.walk.specs.Walk.{walked}
@@ -97,7 +99,7 @@ fills-anew g w e n fills accepted =
 -- A sound store w, and the store v after the edit.
 module _ (g : Geometry) (plan : Plan) (w v : List ℕ) (p : Pair) (normal : Bool) (behind : ℕ) (lends : Lent g plan w) (fits : WordsFit w) (fits-after : WordsFit v)
     (anew : AcceptedAnew g w (entry p normal)) (reached : behind ≡ reach p (headSlots g w)) (edits : v ≡ editedBehind (entry p normal) behind false w)
-    (passes : fault g w ≡ sound) where
+    (passes : fault g w ≡ Sound) where
   abbrev fit : InRange g
   fit = lends .in-range
 

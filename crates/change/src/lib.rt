@@ -21,11 +21,11 @@ use edit::entry_counts;
 use edit::remove_entry;
 use entries::Entry;
 use fault::Fault;
+use fault::Judged;
 use form::HeadRead;
 use geometry::Geometry;
 use geometry::Plan;
 use slot::SlotNo;
-use sound::Whole;
 
 // What a change came to: live pairs, the deepest level merged into and the pages written, or a fault, with nothing changed.
 pub enum Outcome {
@@ -97,11 +97,11 @@ fn change_and_settle(
     ensures { λ r. ⌜ told r (now (store .exit)) (now (work .exit)) ≡ mergedChange g (indexed entry) (now (store .entry)) (now (work .entry)) ⌝ }
 {
     match sound::whole_fault(store, g, plan) {
-        Whole::Fault(fault) => Report {
+        Judged::FaultAt(fault) => Report {
             outcome: Outcome::Fault(fault),
             entries: [0; 4],
         },
-        Whole::Sound => {
+        Judged::Sound => {
             edit_head(store, entry, reach, false);
             settle_head(store, work, g, plan)
         }

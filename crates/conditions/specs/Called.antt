@@ -20,7 +20,8 @@ use Rattle.rules.specs.Merging.{State, formatted}
 use Rattle.rules.specs.Finding.{held}
 use Rattle.rules.specs.Listing.{list}
 use Rattle.rules.specs.Store.{writing, emptyStore}
-use Rattle.rules.specs.Sound.{sound, fault}
+use Rattle.fault.specs.declared.Judged.the-variants.{Sound}
+use Rattle.rules.specs.Faults.{fault}
 use Rattle.geometry.specs.Directory.{geometryOf}
 use Rattle.rules.specs.Requests.{Request, step, pairIn}
 use Rattle.walk.specs.declared.Walked.the-variants.{Found}
@@ -152,7 +153,7 @@ module _ (g : Geometry) (s : State) (set : List Pair) (rest : List ℕ) (fit : I
     unfolding make comesTo seenOf answerTo writesBy given movesTo leaves pagesIn refusal testsOf firstFailing list fillsSlice
     list-whole first second slice =
         let c = lending (listing first second slice) in
-        let passes : fault (geometryOf w) w ≡ sound = ap (λ (h : Geometry). fault h w) stored ∙ good-sound g s fit (holds .good) in
+        let passes : fault (geometryOf w) w ≡ Sound = ap (λ (h : Geometry). fault h w) stored ∙ good-sound g s fit (holds .good) in
         let told = ap (λ (pairs : List Pair). fillsSlice pairs slice) (holds-lists g s set holds first second) in
         passed-agrees g s set words c stands (rw (fits, firstFailing) refl)
         (rw (whole, ← (list-tested w first second slice opened), passes, stored, good-tree g s fit (holds .good)) told) refl

@@ -19,7 +19,8 @@ use Rattle.rules.specs.Tree.{Entry, Level, Tree, level}
 use Rattle.rules.specs.Finding.{Met, absent, met, find, held}
 use Rattle.rules.specs.Merging.{State, Settled, toggle, toggleHead, edit, entries}
 use Rattle.rules.specs.Store.{writing}
-use Rattle.rules.specs.Sound.{headSlots, entriesOf, treeOf, ascending, sound}
+use Rattle.fault.specs.declared.Judged.the-variants.{Sound}
+use Rattle.rules.specs.Sound.{headSlots, entriesOf, treeOf, ascending}
 use Rattle.rules.specs.Good.{Good}
 use Rattle.entries.specs.Ascending.{from-ascending}
 use Rattle.finding.specs.Asked.{decider, head-decides, below-decides}
@@ -39,7 +40,7 @@ workAfter (suc deepest) work = replicate (length work) erased
 -- What the rules give an accepted put or drop, in words.
 unfoldable pub ruledChange : Geometry → ℕ → Settled → List ℕ → Changed
 ruledChange g live s work = record {
-  fault = sound;
+  fault = Sound;
   values = live ∷ s .deepest ∷ length (s .written) ∷ entries (s .tree);
   store = writing g (record { live = live; tree = s .tree });
   work = workAfter (s .deepest) work;

@@ -84,7 +84,7 @@ module _ (g : Geometry) (fit : InRange g) (before : List ℕ) (room : storeWords
   store-is-the-writing = stands-first inForce state pairs (wordsAfter begun made) (agree .after)
 
   -- It stays sound: check is done on it.
-  pub store-sound : checkOf store ≡ record { number = 0; values = 0 ∷ [] }
+  pub store-sound : checkOf store ≡ record { number = 0; values = 0 ∷ 0 ∷ 0 ∷ [] }
   store-sound = rw store-is-the-writing (stands-sound inForce state pairs (wordsAfter begun made) (agree .after))
 
   -- A put or drop on it replies as the rules do, with all their values, and leaves every word of store and work area as they say.

@@ -1,12 +1,14 @@
 -- The numbers of the plain set's replies: no fault among them. Assumes nothing.
 use Prim.Native.Nat.{ℕ, zero, suc}
 use mathlib.Core.Path.{_≡_, refl}
-use mathlib.Core.Bool.{Bool, true, false, not}
+use mathlib.Core.Bool.{Bool, true, false}
 use mathlib.Core.List.{List, [], _∷_}
 use lib.ListN.{length}
-use lib.Dec.{ltb, eqb}
+use lib.Dec.{ltb}
 use Rattle.laws.specs.Lists.{all}
 use Rattle.laws.specs.Flat.{all-first, all-rest}
+use Rattle.fault.specs.declared.Part.the-variants.{Directory}
+use Rattle.fault.specs.Numbers.{numberOf}
 use Rattle.geometry.specs.declared.Geometry.{Geometry}
 use Rattle.geometry.specs.Geometry.{most}
 use Rattle.slot.specs.declared.Pair.{Pair}
@@ -19,9 +21,9 @@ use Rattle.conditions.specs.Lengths.{testsOf, refusal, passed, geometryT
 use Rattle.conditions.specs.Plain.{Answer, fillsSlice, answerTo, refusing, answered, setThen, answers, refusing-number}
 use Rattle.conditions.specs.Seen.{seenOf, seen, seen-number}
 
--- Any number but 6.
+-- Any number below those of faults, which are 10 to 14.
 unfoldable pub noFault : ℕ → Bool
-noFault n = not (eqb n 6)
+noFault n = ltb n (numberOf Directory)
 
 refusal-few : (g : Geometry) (n : ℕ) (task : Task) → noFault (refusal g (record { lent = n; task = task })) ≡ true
 unfolding refusal testsOf all noFault

@@ -27,10 +27,10 @@ use Rattle.conditions.specs.Reports.{pagesIn}
 unfoldable pub zerosOf : Task → List ℕ
 zerosOf (formatting g) = 0 ∷ []
 zerosOf (changing r work) = zeros
-zerosOf (asking p) = 0 ∷ 0 ∷ []
+zerosOf (asking p) = 0 ∷ 0 ∷ 0 ∷ []
 zerosOf (explaining p) = replicate trailWords 0
-zerosOf (listing first second slice) = 0 ∷ 0 ∷ []
-zerosOf checking = 0 ∷ []
+zerosOf (listing first second slice) = 0 ∷ 0 ∷ 0 ∷ []
+zerosOf checking = 0 ∷ 0 ∷ 0 ∷ []
 
 unfoldable pub lentBeside : Task → List ℕ
 lentBeside (formatting g) = []

@@ -7,14 +7,14 @@ use Rattle.opening.specs.Reply.{Reply}
 use Rattle.conditions.specs.Calls.{Task, formatting, changing, asking, explaining, listing, checking, Made}
 use Rattle.conditions.specs.Plain.{Answer}
 
--- All of format, list and check; of put, drop and ask the number and the first value, for the others tell of levels and pages.
+-- All of format, of list how many pairs and the mark; of the others the number and the first value, for the rest tell of levels and pages.
 unfoldable pub seenOf : Task → Reply → List ℕ → Answer
 seenOf (formatting g) r beside = record { number = r .number; values = r .values; slice = [] }
 seenOf (changing q work) r beside = record { number = r .number; values = take 1 (r .values); slice = [] }
 seenOf (asking p) r beside = record { number = r .number; values = take 1 (r .values); slice = [] }
 seenOf (explaining p) r beside = record { number = r .number; values = take 1 (r .values); slice = [] }
-seenOf (listing first second slice) r beside = record { number = r .number; values = r .values; slice = beside }
-seenOf checking r beside = record { number = r .number; values = r .values; slice = [] }
+seenOf (listing first second slice) r beside = record { number = r .number; values = take 2 (r .values); slice = beside }
+seenOf checking r beside = record { number = r .number; values = take 1 (r .values); slice = [] }
 
 unfoldable pub seen : List Made → List Answer
 seen ms = map (λ m. seenOf (m .task) (m .reply) (m .beside)) ms

@@ -35,7 +35,7 @@ module _ (g : Geometry) (s : State) (set : List Pair) (words : List ℕ) (stands
   pub stands-first : take (storeWords g) words ≡ writing g s
   stands-first = rw (stands .written) (whole-lent g (stands .in-range) s (stands .holds .good) (stands .rest))
 
-  pub stands-sound : checkOf (writing g s) ≡ record { number = 0; values = 0 ∷ [] }
+  pub stands-sound : checkOf (writing g s) ≡ record { number = 0; values = 0 ∷ 0 ∷ 0 ∷ [] }
   stands-sound =
       let good = stands .holds .good in
       let fit = stands .in-range in

@@ -48,7 +48,7 @@ pub record PagesWithin (g : Geometry) (w : List ℕ) : Type 0 where
   pub third : pagesOf g w 3 ≤ room g 3
 
 -- The entries of a level's run are those of its slots, and so with the head.
-page-slots : (g : Geometry) (w : List ℕ) (i p : ℕ) → pageIn w (levelRun g w i) p ≡ pageSlots g w i p
+pub page-slots : (g : Geometry) (w : List ℕ) (i p : ℕ) → pageIn w (levelRun g w i) p ≡ pageSlots g w i p
 unfolding levelRun pageIn countIn placeIn pageSlots countAt slotPlace pagePlace slotsFrom
 page-slots g w i p = ap (λ (at : ℕ). span (λ j. slotAt w (at + 3 * j)) 0 (min (getD w (levelStart g i + 64 * p) 0) 21)) (sym (add-zero (levelStart g i + 64 * p + 1)))
 

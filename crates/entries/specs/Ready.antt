@@ -1,25 +1,27 @@
 -- What the tests of soundness show of a store's levels: page counts within the rooms, and levels that ascend. Assumes nothing.
 use Prim.Native.Nat.{ℕ, zero, suc, _+_, _-_, _*_, _≤_, _<_}
 use native.Mathlib.Omega.{arith}
-use mathlib.Core.Path.{_≡_, refl, ap, subst, _∙_}
+use mathlib.Core.Path.{_≡_, refl, ap, _∙_}
 use mathlib.Core.Bool.{Bool, true, false, _&&_, _||_}
 use mathlib.Core.List.{List, [], _∷_}
 use lib.ListN.{length, getD, take, drop}
 use lib.Dec.{leb, ltb, eqb}
-use borrow.Author.Tests.{eqb-true, eqb-false}
 use Rattle.laws.specs.Lists.{span, all, equal}
 use Rattle.laws.specs.Tests.{and-left, and-right}
 use Rattle.geometry.specs.declared.Geometry.{Geometry}
 use Rattle.geometry.specs.Geometry.{room}
-use Rattle.geometry.specs.Places.{headCountWord, headRoom, headStart, levelStart}
+use Rattle.geometry.specs.Places.{headCountWord, headRoom, levelStart}
 use Rattle.slot.specs.declared.Slot.{Slot}
 use Rattle.slot.specs.Pair.{rank, before, same}
 use Rattle.slot.specs.Order.{before-below, same-level}
+use Rattle.fault.specs.declared.Judged.the-variants.{Sound}
 use Rattle.rules.specs.Tree.{Level}
-use Rattle.rules.specs.Level.{fenceKind, pagesFor, fences, weave}
+use Rattle.rules.specs.Level.{fenceKind, pagesFor}
 use Rattle.rules.specs.Finding.{normalKind}
-use Rattle.rules.specs.Store.{runWords, levelWords}
-use Rattle.rules.specs.Sound.{headSlots, levelSlots, entriesOf, firstAt, treeOf, directoryRight, follows, inOrder, legal, fencePages, firstIsLeast, headRight, pageFormed, ascending, levelLaid, withinCapacity, levelSound, headSound, Judged, sound, faultAt, inLevel, levelsFault, acrossFault, else, fault}
+use Rattle.rules.specs.Store.{levelWords}
+use Rattle.rules.specs.Sound.{headSlots, levelSlots, entriesOf, treeOf, directoryRight, follows, inOrder, legal, fencePages, firstIsLeast, headRight, pageFormed, ascending, levelLaid, withinCapacity, levelSound}
+use Rattle.rules.specs.Faults.{writingFaults, fault}
+use Rattle.rules.specs.Faultless.{writings-sound, sound-writings, sound-right, fault-sound}
 use Rattle.geometry.specs.Directory.{pagesOf}
 use Rattle.rules.specs.Directed.{pages-fit}
 use Rattle.entries.specs.Levels.{PagesWithin}
@@ -109,43 +111,13 @@ tree-ascends g w h k =
     ap (λ (b : Bool). elim b [ true ↦ all ascending (span (λ i. entriesOf (levelSlots g w i)) 1 (g .levels - 1)) | false ↦ false ]) (head-ascends g w h) ∙
     all-span (λ i. entriesOf (levelSlots g w i)) 1 (g .levels - 1) (λ j a b. level-ascends g w j (k j a b))
 
--- A sound store is ready for the calls of this crate's users.
-pub levels-sound : (g : Geometry) (w : List ℕ) (n i : ℕ) → levelsFault g w i n ≡ sound → (j : ℕ) → i ≤ j → j < i + n → levelSound g w j ≡ true
-unfolding levelsFault
-levels-sound g w zero i e j a b = absurd (omega arith)
-levels-sound g w (suc n) i e j a b = picked (levelSound g w i) refl e (λ r h. levels-sound g w n (suc i) r j h (omega arith))
-  where
-    there : (c : Bool) → eqb i j ≡ c → levelSound g w i ≡ true → (suc i ≤ j → levelSound g w j ≡ true) → levelSound g w j ≡ true
-    there true x q later = subst (λ (k : ℕ). levelSound g w k ≡ true) (eqb-true i j x) q
-    there false x q later =
-        let d : ¬ (i ≡ j) = eqb-false i j x in
-        later (omega arith)
+-- A sound store is ready for the calls of this crate's users, and so is one that has no fault but across levels.
+pub writings-ready : (g : Geometry) (w : List ℕ) → directoryRight g w ≡ true → writingFaults g w ≡ Sound → PagesWithin g w × (levelsAscend (treeOf g w) ≡ true)
+writings-ready g w right none =
+    let told = writings-sound g w none in
+    (pages-within g w right, tree-ascends g w (sound-right g w (told .0)) (λ i l u. told .1 i l (omega arith)))
 
-    picked : (b : Bool) → levelSound g w i ≡ b → elim b [ true ↦ levelsFault g w (suc i) n | false ↦ faultAt (inLevel i) ] ≡ sound →
-        (levelsFault g w (suc i) n ≡ sound → suc i ≤ j → levelSound g w j ≡ true) → levelSound g w j ≡ true
-    picked true q r ih = there (eqb i j) refl q (ih r)
-    picked false q r ih = let z : _≡_ {A = ℕ} 0 1 = cc in absurd (omega arith)
-
--- Where nothing is found at all, the first finds nothing.
-none-first : (first later : Judged) → else first later ≡ sound → first ≡ sound
-unfolding else
-none-first sound later e = refl
-none-first (faultAt f) later e = e
-
-pub sound-ready : (g : Geometry) (w : List ℕ) → fault g w ≡ sound → PagesWithin g w × (levelsAscend (treeOf g w) ≡ true)
-unfolding fault headSound
-sound-ready g w e = picked (directoryRight g w && headSound g w) refl e
-  where
-    slots : List Slot
-    slots = weave (entriesOf (headSlots g w)) (fences (firstAt g w 1) (pagesOf g w 1))
-
-    picked : (b : Bool) → (directoryRight g w && headSound g w) ≡ b → elim b [ true ↦ else (levelsFault g w 1 (g .levels - 1)) (acrossFault g w) | false ↦ faultAt (inLevel 0) ] ≡ sound →
-        PagesWithin g w × (levelsAscend (treeOf g w) ≡ true)
-    picked true q r =
-        let a : Bool = eqb (length slots) (getD w headCountWord 0) in
-        let c : Bool = equal (take (3 * headRoom g) (drop headStart w)) (runWords slots (headRoom g)) in
-        let head : headSound g w ≡ true = and-right (directoryRight g w) (headSound g w) q in (
-          pages-within g w (and-left (directoryRight g w) (headSound g w) q),
-          tree-ascends g w (and-left (headRight g w) a (and-left (headRight g w && a) c head)) (levels-sound g w (g .levels - 1) 1 (none-first (levelsFault g w 1 (g .levels - 1)) (acrossFault g w) r)),
-        )
-    picked false q r = let z : _≡_ {A = ℕ} 0 1 = cc in absurd (omega arith)
+pub sound-ready : (g : Geometry) (w : List ℕ) → fault g w ≡ Sound → PagesWithin g w × (levelsAscend (treeOf g w) ≡ true)
+sound-ready g w none =
+    let told = fault-sound g w none in
+    writings-ready g w (told .directory) (sound-writings g w (told .head-sound) (told .levels))

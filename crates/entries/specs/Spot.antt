@@ -139,8 +139,8 @@ module _ (w : List ℕ) (run : Run) (spot words : ℕ) (inside : Inside run word
     there : place ≡ placeIn run (pageAt spot) (slotNumber spot)
     there = placed ∙ rw at refl
 
-    pub spot-inside : place + 3 ≤ words
-    spot-inside = slot-inside w run words (pageAt spot) (slotNumber spot) (countIn w run (pageAt spot)) place inside h refl (stands .in-page h) there
+    pub entry-inside : place + 3 ≤ words
+    entry-inside = slot-inside w run words (pageAt spot) (slotNumber spot) (countIn w run (pageAt spot)) place inside h refl (stands .in-page h) there
 
     -- It comes before those from the next spot on.
     pub entry-upcoming : (s : Slot) (normal : Bool) → s ≡ slotAt w place → normal ≡ normalKind (s .kind) →

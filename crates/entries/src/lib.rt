@@ -255,7 +255,7 @@ fn spot_of(page: Pid, slot: SlotNo) -> u64
 }
 
 // The cursor at a spot.
-fn cursor_at(spot: u64) -> Cursor
+pub fn cursor_at(spot: u64) -> Cursor
     ensures { λ r. ⌜ r ≡ cursorAt spot ⌝ }
 {
     Cursor {

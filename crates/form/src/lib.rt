@@ -2,13 +2,14 @@
 // also tells how far a pair reaches in it.
 ghost use Prim.Native.Nat.{_+_, _<_, _≤_, min};
 ghost use mathlib.Core.Path.{_≡_};
+ghost use mathlib.Core.Bool.{cond};
 ghost use lib.ListN.{length};
 ghost use Rattle.geometry.specs.Geometry.{room};
-ghost use Rattle.geometry.specs.Places.{wordsInSlot, wordsInPage, pagePlace};
+ghost use Rattle.geometry.specs.Places.{wordsInSlot, wordsInPage};
 ghost use Rattle.geometry.specs.Lent.{Lent};
 ghost use Rattle.slot.specs.Slot.{slotAt};
-ghost use Rattle.rules.specs.Sound.{directoryRight, pagesRight, headRight, pageFormed};
-ghost use Rattle.form.specs.Passes.{countFits, leastFence, pageScanned, headScanned};
+ghost use Rattle.rules.specs.Sound.{directoryRight, pagesRight};
+ghost use Rattle.form.specs.Passes.{countFits, leastFence, pageAt, PageTold, headAt, HeadFits, HeadTold};
 use geometry::FIRST_SLOT;
 use geometry::Geometry;
 use geometry::HEAD_COUNT;
@@ -33,15 +34,19 @@ use slot::least_pair;
 use slot::read_slot;
 use slot::same_pair;
 
-// What a pass over a page tells of it: whether its count, slot order and tags are right, and how many of its slots are at most the pair asked.
+// What a pass over a page tells of it: whether its count, slot order and tags are right, the slot to tell where they are not, and how many of
+// its slots are at most the pair asked.
 pub struct PageRead {
     pub formed: bool,
+    pub slot: u32,
     pub reach: u32,
 }
 
-// What a pass over the head tells of it: whether it is right, its index entries, and how many of its slots are at most the pair asked.
+// What a pass over the head tells of it: whether it is right, the slot to tell where it is not, its index entries, and how many of its slots
+// are at most the pair asked.
 pub struct HeadRead {
     pub formed: bool,
+    pub slot: u32,
     pub entries: u32,
     pub reach: u32,
 }
@@ -75,40 +80,42 @@ fn pages_right(store: &[u32], g: Geometry, plan: Plan, level: u32) -> bool
     }
 }
 
-// The first word of a page of a lower level.
-pub fn page_place(store: &[u32], g: Geometry, plan: Plan, level: u32, page: Pid) -> usize
-    requires { ⌜ Lent g plan (now store) ⌝ }
-    requires { ⌜ (1 ≤ level) × (level < g .levels) × (page .0 < room g level) ⌝ }
-    ensures exact { λ r. ⌜ r ≡ pagePlace g level (page .0) ⌝ }
-    ensures inside { λ r. ⌜ r + wordsInPage ≤ length (now (store .entry)) ⌝ }
-{
-    let own = level_place(store, g, plan, level);
-    own.start as usize + PAGE_WORDS * page.0 as usize
+// Where a page stands and what its form is tested by: its first word, the pages of the level below, and whether it is the only page of the bottom.
+pub struct PageAt {
+    pub place: usize,
+    pub below: u32,
+    pub alone: bool,
 }
 
-// A pass over a page of a lower level for a pair.
-pub fn page_scan(
-    store: &[u32],
-    g: Geometry,
-    plan: Plan,
-    asked: Pair,
-    level: u32,
-    page: Pid,
-) -> PageRead
+// A page of a lower level.
+pub fn page_at(store: &[u32], g: Geometry, plan: Plan, level: u32, page: Pid) -> PageAt
     requires { ⌜ Lent g plan (now store) ⌝ }
     requires { ⌜ (1 ≤ level) × (level < g .levels) × (page .0 < room g level) ⌝ }
-    ensures exact { λ r. ⌜ r ≡ pageScanned g (now (store .entry)) asked level (page .0) ⌝ }
-    ensures mark { λ r. ⌜ r .formed ≡ pageFormed g (now (store .entry)) level (page .0) ⌝ }
+    ensures exact { λ r. ⌜ r ≡ pageAt g (now (store .entry)) level (page .0) ⌝ }
+    ensures inside { λ r. ⌜ r .place + wordsInPage ≤ length (now (store .entry)) ⌝ }
 {
-    let place = page_place(store, g, plan, level, page);
     let own = level_place(store, g, plan, level);
     let below = level_place(store, g, plan, level + 1);
+    PageAt {
+        place: own.start as usize + PAGE_WORDS * page.0 as usize,
+        below: below.pages,
+        alone: both(level + 1 == g.levels, own.pages == 1),
+    }
+}
+
+// A pass over a page for a pair.
+pub fn page_scan(store: &[u32], at: PageAt, asked: Pair) -> PageRead
+    requires { ⌜ at .place + wordsInPage ≤ length (now store) ⌝ }
+    ensures { λ r. ⌜ PageTold (now (store .entry)) at asked r ⌝ }
+{
+    let place = at.place;
     let count = store[place];
     let slots = lesser(count, PAGE_SLOTS) as usize;
-    let scan = scan_page(store, place + FIRST_SLOT, slots, asked, below.pages);
-    let alone = both(level + 1 == g.levels, own.pages == 1);
+    let scan = scan_page(store, place + FIRST_SLOT, slots, asked, at.below);
+    let fits = count_right(count, at.alone);
     PageRead {
-        formed: both(count_right(count, alone), scan.formed),
+        formed: both(fits, scan.formed),
+        slot: slot_if(fits, scan.breaking),
         reach: scan.reach,
     }
 }
@@ -120,26 +127,49 @@ fn count_right(count: u32, alone: bool) -> bool
     both(count <= PAGE_SLOTS, either(1 <= count, alone))
 }
 
-// A pass over the head for a pair.
-pub fn head_scan(store: &[u32], g: Geometry, plan: Plan, asked: Pair) -> HeadRead
+// What the head is tested by: the slots that it has room for, the pages of level 1, and its capacity.
+pub struct HeadAt {
+    pub room: u32,
+    pub below: u32,
+    pub head: u32,
+}
+
+// The head of a store.
+pub fn head_at(store: &[u32], g: Geometry, plan: Plan) -> HeadAt
     requires { ⌜ Lent g plan (now store) ⌝ }
-    ensures exact { λ r. ⌜ r ≡ headScanned g (now (store .entry)) asked ⌝ }
-    ensures mark { λ r. ⌜ r .formed ≡ headRight g (now (store .entry)) ⌝ }
+    ensures { λ r. ⌜ r ≡ headAt g (now (store .entry)) ⌝ }
+{
+    let below = level_place(store, g, plan, 1);
+    HeadAt {
+        room: plan.head_room,
+        below: below.pages,
+        head: g.head,
+    }
+}
+
+// A pass over the head for a pair.
+pub fn head_scan(store: &[u32], at: HeadAt, asked: Pair) -> HeadRead
+    requires { ⌜ HeadFits (now store) at ⌝ }
+    ensures { λ r. ⌜ HeadTold (now (store .entry)) at asked r ⌝ }
 {
     let count = store[HEAD_COUNT];
-    let below = level_place(store, g, plan, 1);
-    let head_room = plan.head_room;
-    let slots = lesser(count, head_room);
-    let scan = scan_head(store, HEAD_START, slots as usize, asked);
-    let entries = slots - scan.fences;
-    let few = both(count <= head_room, entries < g.head);
-    let turn = both(scan.formed, scan.fences == below.pages);
+    let slots = lesser(count, at.room);
+    let scan = scan_head(store, HEAD_START, slots as usize, asked, at.below, at.head);
     let least = both(1 <= slots, is_least_fence(store, HEAD_START));
+    let begun = both(count <= at.room, least);
     HeadRead {
-        formed: both(both(few, turn), least),
-        entries,
+        formed: both(both(begun, scan.formed), scan.fences == at.below),
+        slot: slot_if(both(begun, scan.breaking < slots), scan.breaking),
+        entries: scan.entries,
         reach: scan.reach,
     }
+}
+
+// A slot to tell, or slot 0.
+fn slot_if(told: bool, slot: u32) -> u32
+    ensures { λ r. ⌜ r ≡ cond told slot 0 ⌝ }
+{
+    if told { slot } else { 0 }
 }
 
 // Whether the slot at a place is a fence with the least pair.

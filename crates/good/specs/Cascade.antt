@@ -86,7 +86,7 @@ module _ (g : Geometry) (fit : InRange g) where
       lowest e = omega (arith, c .few, merge-last i t inside (c .above) (c .ascends) (c .alternates) (s .live) counts (omega (arith, c .levels, e, fit .levels-least)))
 
   -- On its way every level keeps to its room.
-  capacity-total : (i : ℕ) → capacity g i ≤ total g i
+  pub capacity-total : (i : ℕ) → capacity g i ≤ total g i
   unfolding total
   capacity-total zero = omega arith
   capacity-total (suc i) = omega arith

@@ -1,18 +1,18 @@
 -- The runs below the top one of four, and the levels of a tree one by one. Assumes nothing.
 use Prim.Native.Nat.{ℕ, suc, _+_}
 use native.Mathlib.Omega.{arith}
-use mathlib.Core.Path.{_≡_, refl, ap, _∙_}
+use mathlib.Core.Path.{_≡_, refl, sym, _∙_}
 use mathlib.Core.Bool.{Bool, true, false, not, _&&_, Bool·beq}
 use mathlib.Core.List.{List, [], _∷_}
 use lib.Dec.{eqb}
 use borrow.Author.Tests.{ne-eqb}
 use Rattle.laws.specs.Lists.{span, concat, all}
-use Rattle.laws.specs.Tests.{and-left, and-right, and-true}
+use Rattle.laws.specs.Tests.{and-left, and-right}
 use Rattle.geometry.specs.declared.Geometry.{Geometry}
 use Rattle.geometry.specs.Geometry.{InRange}
 use Rattle.rules.specs.Tree.{Level, Tree}
 use Rattle.rules.specs.Finding.{find, held}
-use Rattle.rules.specs.Sound.{entriesOf, treeOf, alternating, countKind, liveRight, ascending}
+use Rattle.rules.specs.Sound.{entriesOf, treeOf, countKind, liveRight, ascending}
 use Rattle.entries.specs.declared.Run.{Run}
 use Rattle.entries.specs.declared.Runs.{Runs}
 use Rattle.entries.specs.Run.{entriesIn}
@@ -21,7 +21,7 @@ use Rattle.entries.specs.Ascending.{levelsAscend, chain-first}
 use Rattle.entries.specs.Counts.{kindCount, count-none, count-normal, count-filter}
 use Rattle.kinds.specs.declared.KindCounts.{KindCounts}
 use Rattle.kinds.specs.KindCounts.{levelCounts, treeCounts}
-use Rattle.kinds.specs.Standing.{rightOver, standsOver, topStands}
+use Rattle.kinds.specs.Standing.{standsOver}
 
 -- A run of no pages, and the runs below the top one.
 abbrev pub noRun : Run
@@ -42,10 +42,6 @@ pub top-ascends : (w : List ℕ) (rs : Runs) → levelsAscend (treeIn w rs) ≡ 
 unfolding belowOf levelsAscend treeIn all ascending entriesIn span concat entriesOf
 top-ascends w rs a = a
 
-pub top-stands : (w : List ℕ) (rs : Runs) → standsOver (entriesIn w (rs .head)) (treeIn w (belowOf rs)) ≡ topStands (treeIn w rs)
-unfolding belowOf topStands standsOver rightOver treeIn entriesIn span concat entriesOf held find
-top-stands w rs = refl
-
 -- Over levels without entries a level stands right exactly if it has no filter.
 abbrev pub noEntries : Tree
 noEntries = [] ∷ [] ∷ [] ∷ [] ∷ []
@@ -59,7 +55,7 @@ all-none w rs a b c d head first second third e =
     rw (head (and-left a b two), first (and-right a b two), second (and-right (a && b) c three), third (and-right ((a && b) && c) d e))
 
 stands-alone : (es : Level) → eqb (kindCount false es) 0 ≡ standsOver es noEntries
-unfolding standsOver rightOver held find all
+unfolding standsOver held find all
 stands-alone [] = rw (count-none false)
 stands-alone (e ∷ es) = by-kind (e .normal) refl (stands-alone es)
   where
@@ -68,32 +64,16 @@ stands-alone (e ∷ es) = by-kind (e .normal) refl (stands-alone es)
     by-kind true q ih = rw (count-normal e es q .1) ih
     by-kind false q ih = rw (count-filter e es q .1) (ne-eqb (suc (kindCount false es)) 0 (λ x. omega (arith, x)))
 
-pub top-alone : (w : List ℕ) (rs : Runs) (n : KindCounts) → treeIn w (belowOf rs) ≡ noEntries → n ≡ levelCounts (entriesIn w (rs .head)) → eqb (n .filters) 0 ≡ topStands (treeIn w rs)
-top-alone w rs n none told = rw told (stands-alone (entriesIn w (rs .head)) ∙ rw (← none) (top-stands w rs))
+pub alone-stands : (w : List ℕ) (run : Run) (lower : Runs) (n : KindCounts) → treeIn w lower ≡ noEntries → n ≡ levelCounts (entriesIn w run) →
+    eqb (n .filters) 0 ≡ true → standsOver (entriesIn w run) (treeIn w lower) ≡ true
+alone-stands w run lower n none told few = rw none (sym (stands-alone (entriesIn w run)) ∙ rw told at few)
 
--- Every level of four stands right over those below it.
-pub alternating-four : (w : List ℕ) (rs : Runs) →
-    alternating (treeIn w rs) ≡
-    (topStands (treeIn w rs) && (topStands (treeIn w (belowOf rs)) && (topStands (treeIn w (belowOf (belowOf rs))) && topStands (treeIn w (belowOf (belowOf (belowOf rs)))))))
-unfolding belowOf alternating topStands standsOver rightOver treeIn entriesIn span concat entriesOf held find
-alternating-four w rs =
-    ap (λ (b : Bool). topStands (treeIn w rs) && (topStands (treeIn w (belowOf rs)) && (topStands (treeIn w (belowOf (belowOf rs))) && b)))
-    (and-true (topStands (treeIn w (belowOf (belowOf (belowOf rs))))))
-
--- The tree that the words hold is judged as the four runs are.
-pub runs-alternate : (g : Geometry) (w : List ℕ) → InRange g → alternating (treeIn w (runsOf g w)) ≡ alternating (treeOf g w)
-unfolding alternating held find all
-runs-alternate g w fit = by-levels g w fit (λ t u. alternating u ≡ alternating t) (λ a b. refl) (λ a b c. refl) (λ a b c d. refl)
-
+-- The tree that the words hold has the entries of the four runs.
 pub runs-count : (g : Geometry) (w : List ℕ) → InRange g → (b : Bool) → countKind b (treeIn w (runsOf g w)) ≡ countKind b (treeOf g w)
 unfolding countKind concat
 runs-count g w fit b = by-levels g w fit (λ t u. countKind b u ≡ countKind b t) (λ x y. refl) (λ x y z. refl) (λ x y z v. refl)
 
--- What was told of the four runs is so of the tree that the words hold.
-module _ (g : Geometry) (w : List ℕ) (fit : InRange g) (rs : Runs) (read : rs ≡ runsOf g w) where
-  pub alternates-told : (r : Bool) → r ≡ alternating (treeIn w rs) → r ≡ alternating (treeOf g w)
-  alternates-told r e = e ∙ rw read (runs-alternate g w fit)
-
-  pub live-told : (live : ℕ) (n : KindCounts) (r : Bool) → n ≡ treeCounts (treeIn w rs) → r ≡ eqb (live + n .filters) (n .normal) → r ≡ liveRight live (treeOf g w)
-  unfolding liveRight
-  live-told live n r t e = e ∙ rw (t, read, runs-count g w fit true, runs-count g w fit false)
+pub live-told : (g : Geometry) (w : List ℕ) (rs : Runs) (live : ℕ) (n : KindCounts) → InRange g → rs ≡ runsOf g w → n ≡ treeCounts (treeIn w rs) →
+    eqb (live + n .filters) (n .normal) ≡ liveRight live (treeOf g w)
+unfolding liveRight
+live-told g w rs live n fit read t = rw (t, read, runs-count g w fit true, runs-count g w fit false)

@@ -7,6 +7,8 @@ use mathlib.Core.List.{List, [], _∷_}
 use lib.ListN.{length}
 use Rattle.slot.specs.declared.Pair.{Pair}
 use Rattle.slot.specs.Pair.{same, least}
+use Rattle.rules.specs.Tree.{Level, Tree}
+use Rattle.rules.specs.Faults.{wrongEntry}
 use Rattle.entries.specs.declared.Run.{Run}
 use Rattle.entries.specs.declared.Runs.{Runs}
 use Rattle.entries.specs.declared.Spots.{Spots}
@@ -31,16 +33,17 @@ module _ (w : List ℕ) (run : Run) where
       told-other s = rw (← here) (sym (decides-not p (entry e) (upcoming w run (spot + 1)) below s))
 
 -- The test of the entry at a spot, against spots moved forward to its pair.
-module _ (w : List ℕ) (run : Run) (rs : Runs) (spot : ℕ) (s t : Spots) (e : Entry) (whole : Bool)
-    (so : Stands (upcoming w run spot) (upcomings w rs s) whole) (here : entry e ∷ upcoming w run (spot + 1) ≡ upcoming w run spot)
+module _ (w : List ℕ) (run : Run) (rs : Runs) (spot : ℕ) (s t : Spots) (e : Entry) (whole : Level) (over : Tree)
+    (so : Stands (upcoming w run spot) (upcomings w rs s) whole over) (here : entry e ∷ upcoming w run (spot + 1) ≡ upcoming w run spot)
     (moved : upcomings w rs t ≡ skipAll (e .pair) (upcomings w rs s)) where
   judged : (held wrong : Bool) → held ≡ heldFirst (e .pair) (upcomings w rs t) → wrong ≡ Bool·beq (e .normal) held →
       wrong ≡ Bool·beq (e .normal) (heldFirst (e .pair) (skipAll (e .pair) (upcomings w rs s)))
   judged held wrong h b = b ∙ ap (Bool·beq (e .normal)) (h ∙ ap (heldFirst (e .pair)) moved)
 
-  pub wrong-here : (held wrong : Bool) → held ≡ heldFirst (e .pair) (upcomings w rs t) → wrong ≡ Bool·beq (e .normal) held → wrong ≡ true → false ≡ whole
+  pub wrong-here : (held wrong : Bool) → held ≡ heldFirst (e .pair) (upcomings w rs t) → wrong ≡ Bool·beq (e .normal) held → wrong ≡ true →
+      length (upcoming w run spot) + wrongEntry whole over ≡ length whole
   wrong-here held wrong h b told =
-      stands-fails (entry e) (upcoming w run (spot + 1)) (upcomings w rs s) whole (rw (← here) at so) (sym (judged held wrong h b) ∙ told)
+      rw (← here) (stands-fails (entry e) (upcoming w run (spot + 1)) (upcomings w rs s) whole over (rw (← here) at so) (sym (judged held wrong h b) ∙ told))
 
   -- The next spot, from which on there is less.
   module _ (next : ℕ) (p : Pair) (l : p ≡ least) (on : upcoming w run next ≡ skip p (upcoming w run (spot + 1))) where
@@ -48,7 +51,7 @@ module _ (w : List ℕ) (run : Run) (rs : Runs) (spot : ℕ) (s t : Spots) (e : 
     fewer-on = omega (arith, ap length here, ap length (from-least w run (spot + 1) next p l on))
 
     pub right-here : (held wrong : Bool) → held ≡ heldFirst (e .pair) (upcomings w rs t) → wrong ≡ Bool·beq (e .normal) held → wrong ≡ false →
-        Stands (upcoming w run next) (upcomings w rs t) whole
+        Stands (upcoming w run next) (upcomings w rs t) whole over
     right-here held wrong h b told =
         rw (from-least w run (spot + 1) next p l on, moved)
-        (stands-next (entry e) (upcoming w run (spot + 1)) (upcomings w rs s) whole (rw (← here) at so) (sym (judged held wrong h b) ∙ told))
+        (stands-next (entry e) (upcoming w run (spot + 1)) (upcomings w rs s) whole over (rw (← here) at so) (sym (judged held wrong h b) ∙ told))

@@ -1,25 +1,24 @@
 -- Each entry stands over the next entry of its pair below, of the other kind, or normal over none: tested entry by entry, with levels below
 -- that only move forward. Assumes nothing.
-use Prim.Native.Nat.{ℕ, suc, _≤_}
+use Prim.Native.Nat.{ℕ, suc, _+_, _≤_, _<_}
 use native.Mathlib.Nat.{le-refl}
 use native.Mathlib.Omega.{arith}
 use mathlib.Core.Path.{_≡_, refl, ap, ap₂, sym, _∙_}
 use mathlib.Core.Bool.{Bool, true, false, not, Bool·beq}
 use mathlib.Core.List.{[], _∷_}
+use lib.ListN.{length}
 use Rattle.laws.specs.Lists.{all}
 use Rattle.slot.specs.declared.Pair.{Pair}
 use Rattle.slot.specs.Pair.{rank, before, same}
 use Rattle.slot.specs.Order.{before-below, not-before-above, apart-not-same}
 use Rattle.rules.specs.Tree.{Entry, Level, Tree, rankOf}
 use Rattle.rules.specs.Finding.{find, held}
+use Rattle.rules.specs.Sound.{rightOver}
+use Rattle.rules.specs.Faults.{wrongEntry}
 use Rattle.entries.specs.Ascending.{From, AllFrom, levelsAscend, all-from-ascending, from-lower, all-from-lower, find-here, find-on, find-above, held-met, held-absent, held-agree}
 use Rattle.entries.specs.Skip.{skip, skipAll}
 
--- An entry's kind is right over a tree: normal exactly if its pair is not held there.
-unfoldable pub rightOver : Tree → Entry → Bool
-rightOver t e = not (Bool·beq (e .normal) (held (e .pair) t))
-
--- So is every entry of a level.
+-- Every entry of a level is right over a tree.
 unfoldable pub standsOver : Level → Tree → Bool
 standsOver es t = all (rightOver t) es
 
@@ -99,66 +98,82 @@ first-decides p ((e ∷ es) ∷ t) a = picked (same p (e .pair)) refl (first-dec
 
 -- Entry by entry -------------------------------------------------------------------------------------------------------------------------------
 
-all-agree : (n : ℕ) (s t : Entry → Bool) → ((e : Entry) → n ≤ rankOf e → s e ≡ t e) → (es : Level) → From n es → all s es ≡ all t es
-unfolding From all
-all-agree n s t h [] a = refl
-all-agree n s t h (e ∷ es) a =
-    ap₂ (λ (b c : Bool). elim b [ true ↦ c | false ↦ false ]) (h e (a .0))
-    (all-agree n s t h es (from-lower n (suc (rankOf e)) es (omega (arith, a .0)) (a .1)))
+-- A level stands right exactly if its first wrong entry is past its end.
+none-wrong : (es : Level) (t : Tree) → wrongEntry es t ≡ length es → standsOver es t ≡ true
+unfolding standsOver all wrongEntry
+none-wrong [] t h = refl
+none-wrong (e ∷ es) t h = picked (rightOver t e) h (none-wrong es t)
+  where
+    picked : (b : Bool) → elim b [ true ↦ suc (wrongEntry es t) | false ↦ 0 ] ≡ suc (length es) → (wrongEntry es t ≡ length es → all (rightOver t) es ≡ true) →
+        elim b [ true ↦ all (rightOver t) es | false ↦ false ] ≡ true
+    picked true q ih = ih (omega arith)
+    picked false q ih = absurd (omega arith)
 
--- A level whose entries come no sooner than a pair stands over the levels from that pair on as over the whole.
-pub stands-on : (p : Pair) (es : Level) (t : Tree) → From (rank p) es → standsOver es (skipAll p t) ≡ standsOver es t
-unfolding standsOver rightOver
-stands-on p es t a =
-    all-agree (rank p) (rightOver (skipAll p t)) (rightOver t) (λ e h. ap (λ (b : Bool). not (Bool·beq (e .normal) b)) (held-skip p (e .pair) t h)) es a
+pub some-wrong : (es : Level) (t : Tree) → wrongEntry es t < length es → standsOver es t ≡ false
+unfolding standsOver all wrongEntry
+some-wrong [] t h = absurd (omega arith)
+some-wrong (e ∷ es) t h = picked (rightOver t e) h (some-wrong es t)
+  where
+    picked : (b : Bool) → elim b [ true ↦ suc (wrongEntry es t) | false ↦ 0 ] < suc (length es) → (wrongEntry es t < length es → all (rightOver t) es ≡ false) →
+        elim b [ true ↦ all (rightOver t) es | false ↦ false ] ≡ false
+    picked true q ih = ih (omega arith)
+    picked false q ih = refl
 
--- The first entry stands right or wrong by what the first entries below decide.
+-- Trees that judge each entry alike have the same first wrong entry.
+pub wrong-agree : (t u : Tree) → ((e : Entry) → rightOver t e ≡ rightOver u e) → (es : Level) → wrongEntry es t ≡ wrongEntry es u
+unfolding wrongEntry
+wrong-agree t u h [] = refl
+wrong-agree t u h (e ∷ es) = ap₂ (λ (b : Bool) (n : ℕ). elim b [ true ↦ suc n | false ↦ 0 ]) (h e) (wrong-agree t u h es)
+
+-- So do, of a level whose entries come no sooner than a pair, the levels from that pair on.
+wrong-on : (p : Pair) (es : Level) (t : Tree) → From (rank p) es → wrongEntry es (skipAll p t) ≡ wrongEntry es t
+unfolding wrongEntry From
+wrong-on p [] t a = refl
+wrong-on p (e ∷ es) t a =
+    ap₂ (λ (b : Bool) (n : ℕ). elim b [ true ↦ suc n | false ↦ 0 ]) (ap (λ (b : Bool). not (Bool·beq (e .normal) b)) (held-skip p (e .pair) t (a .0)))
+    (wrong-on p es t (from-lower (rank p) (suc (rankOf e)) es (omega (arith, a .0)) (a .1)))
+
+-- The first entry is right or wrong by what the first entries below decide.
 module _ (e : Entry) (es : Level) (t : Tree) (n : ℕ) (up : From n (e ∷ es)) (below : AllFrom n t) where
   over-first : rightOver t e ≡ not (Bool·beq (e .normal) (heldFirst (e .pair) (skipAll (e .pair) t)))
-  unfolding rightOver
   over-first =
       ap (λ (b : Bool). not (Bool·beq (e .normal) b))
       (sym (held-skip (e .pair) (e .pair) t (le-refl _)) ∙ first-decides (e .pair) (skipAll (e .pair) t) (all-from-skip n (e .pair) t below))
 
-  pub stands-wrong : Bool·beq (e .normal) (heldFirst (e .pair) (skipAll (e .pair) t)) ≡ true → standsOver (e ∷ es) t ≡ false
-  unfolding standsOver all
-  stands-wrong b = ap (λ (x : Bool). elim x [ true ↦ all (rightOver t) es | false ↦ false ]) (over-first ∙ ap not b)
+  first-wrong : Bool·beq (e .normal) (heldFirst (e .pair) (skipAll (e .pair) t)) ≡ true → wrongEntry (e ∷ es) t ≡ 0
+  unfolding wrongEntry
+  first-wrong b = ap (λ (x : Bool). elim x [ true ↦ suc (wrongEntry es t) | false ↦ 0 ]) (over-first ∙ ap not b)
 
-  pub stands-right : Bool·beq (e .normal) (heldFirst (e .pair) (skipAll (e .pair) t)) ≡ false → standsOver (e ∷ es) t ≡ standsOver es (skipAll (e .pair) t)
-  unfolding standsOver all From
-  stands-right b =
-      ap (λ (x : Bool). elim x [ true ↦ all (rightOver t) es | false ↦ false ]) (over-first ∙ ap not b) ∙
-      sym (stands-on (e .pair) es t (from-lower (rankOf e) (suc (rankOf e)) es (omega arith) (up .1)))
+  first-right : Bool·beq (e .normal) (heldFirst (e .pair) (skipAll (e .pair) t)) ≡ false → wrongEntry (e ∷ es) t ≡ suc (wrongEntry es (skipAll (e .pair) t))
+  unfolding wrongEntry From
+  first-right b =
+      ap (λ (x : Bool). elim x [ true ↦ suc (wrongEntry es t) | false ↦ 0 ]) (over-first ∙ ap not b) ∙
+      ap suc (sym (wrong-on (e .pair) es t (from-lower (rankOf e) (suc (rankOf e)) es (omega arith) (up .1))))
 
--- Whether the top level of a tree stands right over the rest.
-unfoldable pub topStands : Tree → Bool
-topStands [] = true
-topStands (es ∷ t) = standsOver es t
-
--- How far the test of a level has come: what is ahead decides the whole.
-pub record Stands (es : Level) (t : Tree) (whole : Bool) : Type 0 where
-  pub reaches : standsOver es t ≡ whole
+-- How far the test of a level has come: the first wrong entry of what is ahead is that of the whole.
+pub record Stands (es : Level) (t : Tree) (whole : Level) (over : Tree) : Type 0 where
+  pub reaches : length whole + wrongEntry es t ≡ length es + wrongEntry whole over
   pub up : From 0 es
   pub below : AllFrom 0 t
 
-pub stands-begin : (es : Level) (t : Tree) → levelsAscend (es ∷ t) ≡ true → Stands es t (standsOver es t)
+pub stands-begin : (es : Level) (t : Tree) → levelsAscend (es ∷ t) ≡ true → Stands es t es t
 unfolding AllFrom
 stands-begin es t a =
     let from = all-from-ascending (es ∷ t) a in
     record { reaches = refl; up = from .0; below = from .1 }
 
-pub stands-done : (t : Tree) (whole : Bool) → Stands [] t whole → true ≡ whole
-unfolding standsOver all
-stands-done t whole so = so .reaches
+pub stands-done : (t : Tree) (whole : Level) (over : Tree) → Stands [] t whole over → standsOver whole over ≡ true
+unfolding wrongEntry
+stands-done t whole over so = none-wrong whole over (omega (arith, so .reaches))
 
-module _ (e : Entry) (es : Level) (t : Tree) (whole : Bool) (so : Stands (e ∷ es) t whole) where
-  pub stands-fails : Bool·beq (e .normal) (heldFirst (e .pair) (skipAll (e .pair) t)) ≡ true → false ≡ whole
-  stands-fails b = sym (stands-wrong e es t 0 (so .up) (so .below) b) ∙ so .reaches
+module _ (e : Entry) (es : Level) (t : Tree) (whole : Level) (over : Tree) (so : Stands (e ∷ es) t whole over) where
+  pub stands-fails : Bool·beq (e .normal) (heldFirst (e .pair) (skipAll (e .pair) t)) ≡ true → length (e ∷ es) + wrongEntry whole over ≡ length whole
+  stands-fails b = omega (arith, so .reaches, first-wrong e es t 0 (so .up) (so .below) b)
 
-  pub stands-next : Bool·beq (e .normal) (heldFirst (e .pair) (skipAll (e .pair) t)) ≡ false → Stands es (skipAll (e .pair) t) whole
+  pub stands-next : Bool·beq (e .normal) (heldFirst (e .pair) (skipAll (e .pair) t)) ≡ false → Stands es (skipAll (e .pair) t) whole over
   unfolding From
   stands-next b = record {
-    reaches = sym (stands-right e es t 0 (so .up) (so .below) b) ∙ so .reaches;
+    reaches = omega (arith, so .reaches, first-right e es t 0 (so .up) (so .below) b);
     up = from-lower 0 (suc (rankOf e)) es (omega arith) (so .up .1);
     below = all-from-lower 0 (rankOf e) (skipAll (e .pair) t) (omega arith) (all-from-skip 0 (e .pair) t (so .below));
   }

@@ -1,24 +1,31 @@
 // Kinds, alternation and live across the levels of a store whose levels ascend.
 ghost use Prim.Native.Nat.{_+_, _<_};
 ghost use mathlib.Core.Path.{_≡_};
-ghost use mathlib.Core.Bool.{true, _&&_, Bool·beq};
+ghost use mathlib.Core.Bool.{true, Bool·beq};
 ghost use mathlib.Core.List.{[], _∷_};
-ghost use lib.ListN.{length, getD};
+ghost use lib.ListN.{length};
 ghost use lib.Dec.{eqb};
+ghost use Rattle.fault.specs.declared.Judged.the-variants.{FaultAt};
+ghost use Rattle.fault.specs.declared.Part.the-variants.{Kinds};
+ghost use Rattle.fault.specs.Numbers.{noPlace};
 ghost use Rattle.geometry.specs.Lent.{Lent};
-ghost use Rattle.geometry.specs.Places.{liveWord};
-ghost use Rattle.rules.specs.Sound.{treeOf, alternating, liveRight};
+ghost use Rattle.rules.specs.Sound.{treeOf};
+ghost use Rattle.rules.specs.Faults.{unless, firstFault, acrossFault};
 ghost use Rattle.entries.specs.Run.{Inside, entriesIn};
 ghost use Rattle.entries.specs.Levels.{AllInside, PagesWithin, treeIn};
 ghost use Rattle.entries.specs.Ascending.{levelsAscend};
 ghost use Rattle.entries.specs.Skip.{skipAll, pageFrom};
 ghost use Rattle.entries.specs.Spot.{upcoming, Standing, upcomings, AllStanding};
-ghost use Rattle.kinds.specs.Standing.{standsOver, topStands, decides, heldFirst};
+ghost use Rattle.kinds.specs.Standing.{standsOver, decides, heldFirst};
 ghost use Rattle.kinds.specs.KindCounts.{CountsSmall, levelCounts, treeCounts, filterKind};
 ghost use Rattle.kinds.specs.Below.{belowOf, noEntries};
+ghost use Rattle.kinds.specs.Told.{wrongAt, runFault, topFault, faultsFrom};
 use entries::Run;
 use entries::Runs;
 use entries::Spots;
+use fault::Fault;
+use fault::Judged;
+use fault::Part;
 use geometry::Geometry;
 use geometry::Plan;
 use laws::one_if;
@@ -35,29 +42,38 @@ pub struct KindCounts {
     pub filters: u32,
 }
 
-// Whether each pair's entries alternate in kind from the top down with the lowest normal, and live is the normal entries less the filters.
-pub fn kinds_right(store: &[u32], g: Geometry, plan: Plan) -> bool
+// The first wrong entry, level by level from the top: one of the same kind as the next entry of its pair below, or a filter with none below.
+// If no entry is wrong: a fault without a place, unless live is the number of normal entries less that of filters.
+pub fn kinds_fault(store: &[u32], g: Geometry, plan: Plan) -> Judged
     requires { ⌜ Lent g plan (now store) ⌝ }
     requires { ⌜ PagesWithin g (now store) ⌝ }
     requires { ⌜ levelsAscend (treeOf g (now store)) ≡ true ⌝ }
-    ensures { λ r. ⌜ r ≡ (alternating (treeOf g (now (store .entry))) && liveRight (getD (now (store .entry)) liveWord 0) (treeOf g (now (store .entry)))) ⌝ }
+    ensures { λ r. ⌜ r ≡ acrossFault g (now (store .entry)) ⌝ }
 {
     let runs = entries::runs_of(store, g, plan);
-    if !alternates(store, runs) {
-        return false;
+    match alternation_fault(store, runs) {
+        Judged::Sound => live_fault(store[geometry::LIVE], count_kinds(store, runs)),
+        Judged::FaultAt(found) => Judged::FaultAt(found),
     }
-    live_right(store[geometry::LIVE], count_kinds(store, runs))
 }
 
-// Whether live and the filters make the normal entries.
-pub fn live_right(live: u32, counts: KindCounts) -> bool
-    ensures { λ r. ⌜ r ≡ eqb (live + counts .filters) (counts .normal) ⌝ }
+// A fault without a place, unless live and the filters make the normal entries.
+fn live_fault(live: u32, counts: KindCounts) -> Judged
+    ensures { λ r. ⌜ r ≡ unless (eqb (live + counts .filters) (counts .normal)) (noPlace Kinds) ⌝ }
 {
-    live as u64 + counts.filters as u64 == counts.normal as u64
+    if live as u64 + counts.filters as u64 == counts.normal as u64 {
+        return Judged::Sound;
+    }
+    Judged::FaultAt(Fault {
+        part: Part::Kinds,
+        level: 0,
+        page: 0,
+        slot: 0,
+    })
 }
 
 // The normal entries and the filters of four runs.
-pub fn count_kinds(words: &[u32], runs: Runs) -> KindCounts
+fn count_kinds(words: &[u32], runs: Runs) -> KindCounts
     requires { ⌜ AllInside runs (length (now words)) ⌝ }
     ensures { λ r. ⌜ r ≡ treeCounts (treeIn (now (words .entry)) runs) ⌝ }
 {
@@ -125,25 +141,24 @@ fn is_filter(kind: Kind) -> bool
     }
 }
 
-// Whether each level of four runs stands right over those below it.
-fn alternates(words: &[u32], runs: Runs) -> bool
+// The first wrong entry of four runs, from the top down.
+fn alternation_fault(words: &[u32], runs: Runs) -> Judged
     requires { ⌜ AllInside runs (length (now words)) ⌝ }
     requires { ⌜ levelsAscend (treeIn (now words) runs) ≡ true ⌝ }
-    ensures { λ r. ⌜ r ≡ alternating (treeIn (now (words .entry)) runs) ⌝ }
+    ensures { λ r. ⌜ r ≡ firstFault (faultsFrom (now (words .entry)) 0 runs 4) ⌝ }
 {
-    if !top_stands(words, runs) {
-        return false;
+    let mut top = runs;
+    let mut level: u32 = 0;
+    while level < geometry::MOST_LEVELS {
+        match top_fault(words, top, level) {
+            Judged::Sound => {
+                top = below(top);
+                level += 1;
+            }
+            Judged::FaultAt(found) => return Judged::FaultAt(found),
+        }
     }
-    let first = below(runs);
-    if !top_stands(words, first) {
-        return false;
-    }
-    let second = below(first);
-    if !top_stands(words, second) {
-        return false;
-    }
-    let third = below(second);
-    top_stands(words, third)
+    Judged::Sound
 }
 
 // The runs below the top one.
@@ -166,22 +181,34 @@ fn below(runs: Runs) -> Runs
     }
 }
 
-// Whether the top level of four runs stands right over those below it: over no entries, exactly if it has no filter.
-fn top_stands(words: &[u32], runs: Runs) -> bool
+// The first wrong entry of the top one of four runs, over those below it.
+fn top_fault(words: &[u32], runs: Runs, level: u32) -> Judged
     requires { ⌜ AllInside runs (length (now words)) ⌝ }
     requires { ⌜ levelsAscend (treeIn (now words) runs) ≡ true ⌝ }
-    ensures { λ r. ⌜ r ≡ topStands (treeIn (now (words .entry)) runs) ⌝ }
+    ensures { λ r. ⌜ r ≡ topFault (now (words .entry)) level runs ⌝ }
 {
     let top = runs.head;
     let lower = below(runs);
-    if all_empty(words, lower) {
-        let counts = count_run(words, top);
-        return counts.filters == 0;
+    if stands_alone(words, top, lower) {
+        return Judged::Sound;
     }
-    stands_over(words, top, lower)
+    run_fault(words, top, lower, level)
 }
 
-// Whether four runs have no entries. Only a yes is promised to be right: after a no the level is tested entry by entry.
+// Whether a run has no filter and the runs below it no entry. Only a yes is promised to be right: after a no the run is tested entry by entry.
+fn stands_alone(words: &[u32], top: Run, lower: Runs) -> bool
+    requires { ⌜ Inside top (length (now words)) ⌝ }
+    requires { ⌜ AllInside lower (length (now words)) ⌝ }
+    ensures { λ r. ⌜ (r ≡ true → standsOver (entriesIn (now (words .entry)) top) (treeIn (now (words .entry)) lower) ≡ true) ⌝ }
+{
+    if !all_empty(words, lower) {
+        return false;
+    }
+    let counts = count_run(words, top);
+    counts.filters == 0
+}
+
+// Whether four runs have no entries. Only a yes is promised to be right.
 fn all_empty(words: &[u32], runs: Runs) -> bool
     requires { ⌜ AllInside runs (length (now words)) ⌝ }
     ensures { λ r. ⌜ (r ≡ true → treeIn (now (words .entry)) runs ≡ noEntries) ⌝ }
@@ -197,7 +224,7 @@ fn all_empty(words: &[u32], runs: Runs) -> bool
     head & first & second & third
 }
 
-// Whether a run has none.
+// Whether a run has no entries. Only a yes is promised to be right.
 fn is_empty(words: &[u32], run: Run) -> bool
     requires { ⌜ Inside run (length (now words)) ⌝ }
     ensures { λ r. ⌜ (r ≡ true → entriesIn (now (words .entry)) run ≡ []) ⌝ }
@@ -205,12 +232,12 @@ fn is_empty(words: &[u32], run: Run) -> bool
     entries::is_ended(run, entries::skip_to(words, run, 0, slot::least_pair()))
 }
 
-// Whether each entry of a run stands over the next entry of its pair below, of the other kind, or normal over none.
-fn stands_over(words: &[u32], top: Run, lower: Runs) -> bool
+// The first wrong entry of a run over the runs below it, entry by entry.
+fn run_fault(words: &[u32], top: Run, lower: Runs, level: u32) -> Judged
     requires { ⌜ Inside top (length (now words)) ⌝ }
     requires { ⌜ AllInside lower (length (now words)) ⌝ }
     requires { ⌜ levelsAscend (entriesIn (now words) top ∷ treeIn (now words) lower) ≡ true ⌝ }
-    ensures { λ r. ⌜ r ≡ standsOver (entriesIn (now (words .entry)) top) (treeIn (now (words .entry)) lower) ⌝ }
+    ensures { λ r. ⌜ r ≡ runFault (now (words .entry)) level top (treeIn (now (words .entry)) lower) ⌝ }
 {
     let least = slot::least_pair();
     let mut spots = Spots {
@@ -222,14 +249,30 @@ fn stands_over(words: &[u32], top: Run, lower: Runs) -> bool
     let mut spot = entries::skip_to(words, top, 0, least);
     while !entries::is_ended(top, spot) {
         let entry = entries::entry_at(words, top, spot);
+        let next = spot + 1;
         let pair = entry.pair;
         spots = entries::spots_from(words, lower, spots, pair);
         if agree(entry.normal, held_at(words, lower, spots, pair)) {
-            return false;
+            return wrong_at(level, spot);
         }
-        spot = entries::skip_to(words, top, spot + 1, least);
+        spot = entries::skip_to(words, top, next, least);
     }
-    true
+    Judged::Sound
+}
+
+// The fault of the wrong entry at a spot of a level.
+fn wrong_at(level: u32, spot: u64) -> Judged
+    ensures { λ r. ⌜ r ≡ FaultAt (wrongAt level spot) ⌝ }
+{
+    let cursor = entries::cursor_at(spot);
+    let page = cursor.page;
+    let slot = cursor.slot;
+    Judged::FaultAt(Fault {
+        part: Part::Kinds,
+        level,
+        page: page.0,
+        slot: slot.0,
+    })
 }
 
 // Whether the topmost entry of a pair at four spots holds it.

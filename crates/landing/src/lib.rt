@@ -64,7 +64,7 @@ pub extern "C" fn landing_drop(
 
 // May this badge call this floor?
 #[no_mangle]
-pub extern "C" fn landing_ask(store: &[u32], badge: u32, floor: u32, out: &mut [u32; 2]) -> u32
+pub extern "C" fn landing_ask(store: &[u32], badge: u32, floor: u32, out: &mut [u32; 3]) -> u32
     ensures { λ r. ⌜ replied r (now (out .exit)) ≡ askOf (now (store .entry)) (pairOf badge floor) ⌝ }
 {
     let asked = ask_reply(index::ask(store, pair_of(badge, floor)));
@@ -91,7 +91,7 @@ pub extern "C" fn landing_list(
     badge2: u32,
     floor2: u32,
     list: &mut [u32],
-    out: &mut [u32; 2],
+    out: &mut [u32; 3],
 ) -> u32
     ensures { λ r. ⌜ filled r (now (out .exit)) (now (list .exit)) ≡ listOf (now (store .entry)) (pairOf badge1 floor1) (pairOf badge2 floor2) (now (list .entry)) ⌝ }
 {
@@ -105,7 +105,7 @@ pub extern "C" fn landing_list(
 
 // Is this store sound?
 #[no_mangle]
-pub extern "C" fn landing_check(store: &[u32], out: &mut [u32; 1]) -> u32
+pub extern "C" fn landing_check(store: &[u32], out: &mut [u32; 3]) -> u32
     ensures { λ r. ⌜ replied r (now (out .exit)) ≡ checkOf (now (store .entry)) ⌝ }
 {
     let checked = check_reply(index::check(store));

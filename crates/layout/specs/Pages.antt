@@ -7,13 +7,14 @@ use native.Mathlib.Omega.{arith}
 use mathlib.Core.Path.{_≡_, refl, sym, ap, _∙_}
 use mathlib.Core.Bool.{Bool, true, false}
 use mathlib.Core.List.{List, _∷_, _++_, append-nil}
-use lib.ListN.{length, getD, take, drop, replicate, length-append, length-take, length-drop, length-replicate}
+use lib.ListN.{length, getD, take, drop, replicate, length-take, length-drop, length-replicate}
 use lib.Seq.{drop-cons, drop-drop, take-add, take-all, length-take-le}
 use mathlib.Core.Logic.{_≢_}
 use lib.Dec.{ltb, eqb}
 use borrow.Author.Tests.{lt-ltb, le-ltb, ltb-true, ltb-false, eqb-true, eqb-false}
 use Rattle.laws.specs.Lists.{span, concat}
 use Rattle.laws.specs.Flat.{span-agree, span-length, span-append, span-take, span-drop, append-left, append-right, slice-replicate, replicate-slice}
+use Rattle.laws.specs.Joined.{joined-length}
 use Rattle.geometry.specs.Places.{erased, wordsInPage, wordsInSlot, slotsInPage}
 use Rattle.slot.specs.declared.Slot.{Slot}
 use Rattle.slot.specs.Slot.{slotAt}
@@ -21,7 +22,7 @@ use Rattle.rules.specs.Level.{pagesFor, pageOf}
 use Rattle.rules.specs.Store.{runWords, pageWords, levelWords}
 use Rattle.rules.specs.Sound.{slotsFrom}
 use Rattle.layout.specs.Words.{countOf, pageRun, levelRun}
-use Rattle.layout.specs.Run.{wordsOfAll, words-length, run-written, run-slots, run-rest}
+use Rattle.layout.specs.Run.{run-words, run-written, run-slots, run-rest}
 
 -- The slot at position n of the row of a level that starts at a place.
 unfoldable pub flatSlot : List ℕ → ℕ → ℕ → Slot
@@ -52,16 +53,17 @@ page-most : (slots : List Slot) (p : ℕ) → length (pageOf slots p) ≤ 21
 page-most slots p = omega (arith, page-length slots p)
 
 pub level-page-length : (slots : List Slot) (p : ℕ) → length (levelPage slots p) ≡ 64
-unfolding levelPage pageWords runWords
+unfolding levelPage pageWords
 level-page-length slots p = chosen (ltb p (pagesFor (length slots)))
   where
     chosen : (b : Bool) → length {A = ℕ} (elim b [ true ↦ pageWords (pageOf slots p) | false ↦ replicate 64 erased ]) ≡ 64
-    chosen true =
-        let ss = pageOf slots p in
-        ap suc
-        (length-append (wordsOfAll ss) (replicate (3 * (21 - length ss)) erased) ∙
-        omega (arith, words-length ss, length-replicate (3 * (21 - length ss)) erased, page-most slots p))
+    chosen true = ap suc (run-words (pageOf slots p) 21 (page-most slots p))
     chosen false = length-replicate 64 erased
+
+-- A level's words fill its room.
+pub level-words : (slots : List Slot) (n : ℕ) → length (levelWords slots n) ≡ 64 * n
+level-words slots n =
+    rw (level-pages slots n) (rw (zero-add n, zero-add) at (joined-length (levelPage slots) (λ p. 64 * p) (λ p. omega (arith, level-page-length slots p)) 0 n))
 
 -- Pages joined are a level's words exactly if each stands in its place.
 pub pages-joined : (w : List ℕ) (start : ℕ) (f : ℕ → List ℕ) (q m : ℕ) →

@@ -4,7 +4,7 @@ use native.Mathlib.Numerals.{add-one, add-two}
 use native.Mathlib.Omega.{arith}
 use mathlib.Core.Path.{_≡_, refl, sym, ap, _∙_}
 use mathlib.Core.List.{List, [], _∷_, _++_, map}
-use lib.ListN.{length, getD, take, drop, replicate, length-append}
+use lib.ListN.{length, getD, take, drop, replicate, length-append, length-replicate}
 use lib.Seq.{drop-cons, drop-drop, take-add}
 use Rattle.laws.specs.Lists.{span, concat}
 use Rattle.laws.specs.Flat.{span-agree, span-length, append-left, append-right}
@@ -38,6 +38,13 @@ pub words-length : (ss : List Slot) → length (wordsOfAll ss) ≡ 3 * length ss
 unfolding concat
 words-length [] = refl
 words-length (s ∷ ss) = length-append (wordsOf s) (wordsOfAll ss) ∙ omega (arith, words-three s, words-length ss)
+
+-- The words of a run of slots fill its room, where the slots do not pass it.
+pub run-words : (slots : List Slot) (n : ℕ) → length slots ≤ n → length (runWords slots n) ≡ 3 * n
+unfolding runWords
+run-words slots n h =
+    length-append (wordsOfAll slots) (replicate (3 * (n - length slots)) erased) ∙
+    omega (arith, words-length slots, length-replicate (3 * (n - length slots)) erased)
 
 words-all : (ss ts : List Slot) → length ss ≡ length ts → wordsOfAll ss ≡ wordsOfAll ts → ss ≡ ts
 unfolding concat

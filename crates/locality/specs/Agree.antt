@@ -2,7 +2,7 @@
 use Prim.Native.Nat.{ℕ, zero, suc, _+_, _*_, _≤_, _<_, min}
 use native.Mathlib.Nat.{min-le-right}
 use native.Mathlib.Omega.{arith}
-use mathlib.Core.Path.{_≡_, refl, ap}
+use mathlib.Core.Path.{_≡_, refl, ap, fun-ext}
 use mathlib.Core.Bool.{Bool, true, false, _&&_}
 use mathlib.Core.List.{List, [], _∷_}
 use lib.ListN.{getD}
@@ -16,6 +16,7 @@ use Rattle.geometry.specs.Apart.{first-slot}
 use Rattle.slot.specs.declared.Pair.{Pair}
 use Rattle.slot.specs.Slot.{slotAt}
 use Rattle.rules.specs.Sound.{slotsFrom, headSlots, countAt, pageSlots, pagesRight, directoryRight, headRight, countRight, pageFormed, pageRight}
+use Rattle.rules.specs.Faults.{headRule, headSlot, headFault, pageRule, pageSlot, pageFault, walkFault}
 use Rattle.geometry.specs.Directory.{geometryOf, pagesOf}
 use Rattle.form.specs.Passes.{headScanned, pageScanned}
 use Rattle.walk.specs.Step.{headStep, pageStep}
@@ -97,9 +98,13 @@ module _ (w v : List ℕ) (same : Same w v 0 directoryWords) where
         same-head =
             rw (same-word headCountWord (omega arith)) (same-slots w v headStart (headRoom g) (min (getD v headCountWord 0) (headRoom g)) head (min-le-right (getD v headCountWord 0) (headRoom g)))
 
+        same-head-rule : headRule g w ≡ headRule g v
+        unfolding headRule
+        same-head-rule = fun-ext (λ ss. rw (same-count 1))
+
         pub same-head-step : headStep g w asked ≡ headStep g v asked
-        unfolding headStep headRight
-        same-head-step = rw (same-head, same-word headCountWord (omega arith), same-count 1)
+        unfolding headStep headRight headFault headSlot
+        same-head-step = rw (same-head-rule, same-head, same-word headCountWord (omega arith), same-count 1)
 
         pub same-head-line : headLine g w asked ≡ headLine g v asked
         unfolding headLine headScanned
@@ -117,9 +122,13 @@ module _ (w v : List ℕ) (same : Same w v 0 directoryWords) where
             rw (same-page-count, first-slot g i p)
             (same-slots w v (pagePlace g i p + 1) 21 (min (countAt g v i p) 21) (λ k a b. page k (omega arith) (omega arith)) (min-le-right (countAt g v i p) 21))
 
+        same-page-rule : pageRule g w i ≡ pageRule g v i
+        unfolding pageRule
+        same-page-rule = fun-ext (λ ss. rw (same-count (suc i)))
+
         pub same-page-step : pageStep g w asked i p ≡ pageStep g v asked i p
-        unfolding pageStep pageRight pageFormed countRight
-        same-page-step = rw (same-page, same-page-count, same-count i, same-count (suc i))
+        unfolding pageStep pageRight pageFormed countRight walkFault pageFault pageSlot
+        same-page-step = rw (same-page-rule, same-page, same-page-count, same-count i, same-count (suc i))
 
         pub same-page-line : pageLine g w asked i p ≡ pageLine g v asked i p
         unfolding pageLine pageScanned

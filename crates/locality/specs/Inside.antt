@@ -13,8 +13,8 @@ use Rattle.slot.specs.declared.Pair.{Pair}
 use Rattle.slot.specs.Slot.{slotAt}
 use Rattle.rules.specs.Sound.{directoryRight, headRight, pageFormed}
 use Rattle.geometry.specs.Directory.{geometryOf, pagesOf}
-use Rattle.walk.specs.declared.Step.{Step}
-use Rattle.walk.specs.declared.Step.the-variants.{Decided, Follow, Nothing, Broken}
+use Rattle.walk.specs.Stepping.{Step}
+use Rattle.walk.specs.Stepping.{Decided, Follow, Nothing, Broken}
 use Rattle.form.specs.Passes.{fenceUpTo}
 use Rattle.walk.specs.Step.{headStep, pageStep, StepWithin}
 use Rattle.walk.specs.Read.{head-broken, head-tells, head-within, page-broken, page-first-broken, page-tells, page-within}
@@ -36,7 +36,7 @@ module _ (g : Geometry) (w : List ℕ) (asked : Pair) where
     where
       by : (b : Bool) → headRight g w ≡ b → StepWithin (pagesOf g w 1) (headStep g w asked)
       by true e = rw (head-tells g w asked e) at (head-within g w asked e)
-      by false e = rw (← (head-broken g w asked e)) tt
+      by false e = rw (← (head-broken g w asked refl e)) tt
 
   page-follows : (i p : ℕ) → suc i < g .levels → StepWithin (pagesOf g w (suc i)) (pageStep g w asked i p)
   page-follows i p above = by (pageFormed g w i p) refl (fenceUpTo asked (slotAt w (pagePlace g i p + 1))) refl
@@ -45,7 +45,7 @@ module _ (g : Geometry) (w : List ℕ) (asked : Pair) where
           StepWithin (pagesOf g w (suc i)) (pageStep g w asked i p)
       by true e true h = rw (page-tells g w asked i p e above h) at (page-within g w asked i p e above h)
       by true e false h = rw (← (page-first-broken g w asked i p e above h)) tt
-      by false e f h = rw (← (page-broken g w asked i p e)) tt
+      by false e f h = rw (← (page-broken g w asked i p refl e)) tt
 
   -- The pages read from a level on.
   module _ (n : ℕ) (four : g .levels ≤ 4) (exact : n ≡ storeWords g) (right : directoryRight g w ≡ true) where
@@ -63,7 +63,7 @@ module _ (g : Geometry) (w : List ℕ) (asked : Pair) where
         let here = read-inside i (page .0) (omega arith) (k (omega arith)) in
         (here .0, here .1, reads-inside m (suc i) (pageStep g w asked (suc i) (page .0)) (omega arith) (λ l. page-follows (suc i) (page .0) (omega arith)))
     reads-inside (suc m) i Nothing h k = tt
-    reads-inside (suc m) i Broken h k = tt
+    reads-inside (suc m) i (Broken f) h k = tt
 
 pub reads-lie-inside : (w : List ℕ) (asked : Pair) → PagesInside (geometryOf w) (length w) 1 (pagesRead w asked)
 reads-lie-inside w asked = rw (pages-read w asked, walk-reads (geometryOf w) w asked) (by (opening w) refl (directoryRight (geometryOf w) w) refl)

@@ -8,9 +8,11 @@ use Rattle.geometry.specs.declared.Geometry.{Geometry}
 use Rattle.geometry.specs.Geometry.{bottom}
 use Rattle.geometry.specs.Places.{headRoom, headStart, directoryWords}
 use Rattle.slot.specs.declared.Pair.{Pair}
-use Rattle.rules.specs.Sound.{directoryRight, inLevel}
-use Rattle.walk.specs.declared.Step.{Step}
-use Rattle.walk.specs.declared.Step.the-variants.{Decided, Follow, Nothing, Broken}
+use Rattle.fault.specs.declared.Part.the-variants.{Directory}
+use Rattle.fault.specs.Numbers.{noPlace}
+use Rattle.rules.specs.Sound.{directoryRight}
+use Rattle.walk.specs.Stepping.{Step}
+use Rattle.walk.specs.Stepping.{Decided, Follow, Nothing, Broken}
 use Rattle.walk.specs.declared.Walked.{Walked}
 use Rattle.walk.specs.declared.Walked.the-variants.{Fault}
 use Rattle.walk.specs.Step.{headStep, pageStep}
@@ -31,7 +33,7 @@ module _ (g : Geometry) (w v : List ℕ) (asked : Pair) (four : g .levels ≤ 4)
   same-walk-on zero i (Decided held) same = (refl, refl)
   same-walk-on zero i (Follow page) same = (refl, refl)
   same-walk-on zero i Nothing same = (refl, refl)
-  same-walk-on zero i Broken same = (refl, refl)
+  same-walk-on zero i (Broken f) same = (refl, refl)
   same-walk-on (suc n) i (Decided held) same = (refl, refl)
   same-walk-on (suc n) i (Follow page) same =
       let step = same-page-step w v directory g four asked (suc i) (page .0) (same .0) in
@@ -41,7 +43,7 @@ module _ (g : Geometry) (w v : List ℕ) (asked : Pair) (four : g .levels ≤ 4)
         both line (rest .1 ∙ ap (linesOn g v asked n (suc i)) step),
       )
   same-walk-on (suc n) i Nothing same = (refl, refl)
-  same-walk-on (suc n) i Broken same = (refl, refl)
+  same-walk-on (suc n) i (Broken f) same = (refl, refl)
 
   pub same-walk : Same w v headStart (3 * headRoom g) → SamePages g w v 1 (walkReads g w asked) →
       (walked g w asked ≡ walked g v asked) × (walkLines g w asked ≡ walkLines g v asked)
@@ -55,7 +57,7 @@ module _ (g : Geometry) (w v : List ℕ) (asked : Pair) (four : g .levels ≤ 4)
       below x = linesOn g x asked (bottom g) 0 (headStep g x asked)
 
       by : (b : Bool) → SamePages g w v 1 (cond b (linePages (below w)) []) →
-          (cond b (walking w) (Fault (inLevel 0)) ≡ cond b (walking v) (Fault (inLevel 0))) × (cond b (trail g w asked) [] ≡ cond b (trail g v asked) [])
+          (cond b (walking w) (Fault (noPlace Directory)) ≡ cond b (walking v) (Fault (noPlace Directory))) × (cond b (trail g w asked) [] ≡ cond b (trail g v asked) [])
       by true same =
           let step = same-head-step w v directory g four head asked in
           let rest = same-walk-on (bottom g) 0 (headStep g w asked) same in (

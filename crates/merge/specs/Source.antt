@@ -30,9 +30,8 @@ use Rattle.geometry.specs.Directory.{pagesOf, levelPlace, pages-none}
 use Rattle.entries.specs.declared.Run.{Run}
 use Rattle.entries.specs.Run.{Inside, entriesIn}
 use Rattle.entries.specs.Levels.{PagesWithin}
-use Rattle.layout.specs.Pages.{levelPage, level-pages}
+use Rattle.layout.specs.Pages.{levelPage, level-pages, level-words}
 use Rattle.written.specs.Parts.{level-laid}
-use Rattle.stored.specs.Parts.{level-words}
 use Rattle.writer.specs.declared.Source.{Source}
 use Rattle.writer.specs.Source.{SourceInside, SourceAscends, levelFrom}
 use Rattle.writer.specs.Writing.{roomIn, WholePages}

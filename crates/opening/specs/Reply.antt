@@ -1,5 +1,5 @@
 -- The paper's section "Numbered replies, in order of test". Assumes nothing.
-use Prim.Native.Nat.{ℕ, zero, suc}
+use Prim.Native.Nat.{ℕ, zero, suc, _-_}
 use native.Mathlib.Omega.{arith}
 use mathlib.Core.Path.{_≡_, refl}
 use mathlib.Core.Bool.{Bool, true, false}
@@ -10,6 +10,8 @@ use lib.ListN.{getD}
 use Rattle.laws.specs.Lists.{all}
 use Rattle.laws.specs.Flat.{all-first, all-rest}
 use Rattle.fault.specs.declared.Fault.{Fault}
+use Rattle.fault.specs.declared.Part.the-variants.{Directory, Head, Page, Writing, Kinds}
+use Rattle.fault.specs.Numbers.{numberOf, faultIn}
 
 -- A reply: its number, and the values that the call returns with it.
 pub record Reply : Type 0 where
@@ -27,12 +29,16 @@ pub record Filled : Type 0 where
 abbrev pub filled : ℕ → List ℕ → List ℕ → Filled
 filled number values words = record { reply = replied number values; words = words }
 
--- The values that reply 6 returns first: the level of the fault. The fault is told by them.
-abbrev pub faultValues : Fault → List ℕ
-faultValues f = f .level ∷ []
+-- A fault is told by its number, 10 to 14, and by the values that come first: its level, page and slot.
+abbrev pub faultNumber : Fault → ℕ
+faultNumber f = numberOf (f .part)
 
-abbrev pub faultBy : List ℕ → Fault
-faultBy values = record { level = getD values 0 0 }
+abbrev pub faultValues : Fault → List ℕ
+faultValues f = f .level ∷ f .page ∷ f .slot ∷ []
+
+-- Which fault it was.
+abbrev pub faultBy : ℕ → List ℕ → Fault
+faultBy number values = faultIn (getD (Directory ∷ Head ∷ Page ∷ Writing ∷ []) (number - 10) Kinds) (getD values 0 0) (getD values 1 0) (getD values 2 0)
 
 -- A test and the number that is replied where it fails.
 pub record Test : Type 0 where

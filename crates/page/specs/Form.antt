@@ -1,25 +1,27 @@
 -- What a pass over slots tells of them: slot order and right tags, the number of fences and so of index entries, and the slots at most the
 -- pair asked, which stand first. Assumes nothing.
-use Prim.Native.Nat.{ℕ, zero, suc, _+_, _-_, _≤_}
-use native.Mathlib.Nat.{zero-add, add-zero, sub-zero}
+use Prim.Native.Nat.{ℕ, zero, suc, _+_, _≤_, _<_}
+use native.Mathlib.Nat.{zero-add, add-zero}
+use native.Mathlib.Numerals.{add-one}
 use native.Mathlib.Omega.{arith}
-use mathlib.Core.Path.{_≡_, refl, sym, ap, _∙_}
-use mathlib.Core.Logic.{_≢_}
+use mathlib.Core.Path.{_≡_, refl, sym, ap, _∙_, fun-ext}
 use mathlib.Core.Bool.{Bool, true, false, not, _&&_, _||_, cond}
 use mathlib.Core.List.{List, [], _∷_}
 use lib.ListN.{length, take}
 use lib.Dec.{ltb, eqb}
-use borrow.Author.Tests.{lt-ltb, ltb-true, ne-eqb, eqb-true, eqb-false}
-use Rattle.laws.specs.Tests.{and-left, and-right, and-regroup, and-true, and-false, and-assoc}
-use Rattle.laws.specs.Lists.{span, passing, all, equal, all-cons, passing-yes, passing-no, span-next, span-end, equal-cons}
+use borrow.Author.Tests.{lt-ltb, le-ltb, ltb-true, ltb-false, ne-eqb, eq-eqb, eqb-true, eqb-false}
+use Rattle.laws.specs.Tests.{and-left, and-right, and-regroup, and-true, and-false}
+use Rattle.laws.specs.Lists.{span, passing, all, equal, all-cons, passing-yes, passing-no, equal-cons}
+use Rattle.laws.specs.First.{firstFrom, firstNot, first-later, first-at-once}
 use Rattle.slot.specs.declared.Pair.{Pair}
 use Rattle.slot.specs.declared.Slot.{Slot}
 use Rattle.slot.specs.Pair.{rank, before, same}
 use Rattle.rules.specs.Level.{fenceKind}
 use Rattle.rules.specs.Sound.{follows, inOrder, legal, entriesOf, fencePages}
+use Rattle.rules.specs.Faults.{breaking}
 use Rattle.page.specs.declared.Scan.{Scan}
 use Rattle.page.specs.Scan.{mayFollow, started, stepped, scanned}
-use Rattle.page.specs.Tag.{legalBelow, inTurn, entry-in-turn, fence-in-turn}
+use Rattle.page.specs.Tag.{legalBelow, headTag, entry-tag, fence-tag}
 
 -- Slot order from a last rank on.
 unfoldable pub chain : ℕ → Bool → List Slot → Bool
@@ -65,10 +67,10 @@ entry-follows last next m = above (ltb last next) m
     above true h = refl
     above false h = sym (and-false (eqb last next)) ∙ h
 
--- Every tag right, from a number of fences on.
-unfoldable pub tagged : (ℕ → Slot → Bool) → ℕ → List Slot → Bool
-tagged right i [] = true
-tagged right i (s ∷ ss) = right i s && tagged right (i + cond (fenceKind (s .kind)) 1 0) ss
+-- Every tag right, from numbers of fences and of index entries on.
+unfoldable pub tagged : (ℕ → ℕ → Slot → Bool) → ℕ → ℕ → List Slot → Bool
+tagged right i m [] = true
+tagged right i m (s ∷ ss) = let fence = fenceKind (s .kind) in right i m s && tagged right (i + cond fence 1 0) (m + cond (not fence) 1 0) ss
 
 -- A slot at most the pair asked.
 abbrev upTo : Pair → Slot → Bool
@@ -84,18 +86,18 @@ module _ (s : Slot) (ss : List Slot) where
   unfolding fencePages
   entry-listed e = rw (passing-no (λ s. fenceKind (s .kind)) s ss e)
 
-module _ (asked : Pair) (right : ℕ → Slot → Bool) where
+module _ (asked : Pair) (right : ℕ → ℕ → Slot → Bool) where
   -- Slot order and right tags.
   formed-from : (c : Scan) (ss : List Slot) →
-      (scanned asked right c ss) .formed ≡ (c .formed && (chain (c .last) (c .«last_fence») ss && tagged right (c .fences) ss))
+      (scanned asked right c ss) .formed ≡ (c .formed && (chain (c .last) (c .«last_fence») ss && tagged right (c .fences) (c .entries) ss))
   unfolding scanned stepped chain tagged
   formed-from c [] = sym (and-true (c .formed))
   formed-from c (s ∷ ss) =
-      formed-from (stepped asked c s (right (c .fences) s)) ss ∙
-      and-regroup (c .formed) (mayFollow (c .last) (c .«last_fence») (rank (s .pair))) (right (c .fences) s) (chain (rank (s .pair)) (fenceKind (s .kind)) ss)
-      (tagged right (c .fences + cond (fenceKind (s .kind)) 1 0) ss)
+      formed-from (stepped asked c s (right (c .fences) (c .entries) s)) ss ∙
+      and-regroup (c .formed) (mayFollow (c .last) (c .«last_fence») (rank (s .pair))) (right (c .fences) (c .entries) s) (chain (rank (s .pair)) (fenceKind (s .kind)) ss)
+      (tagged right (c .fences + cond (fenceKind (s .kind)) 1 0) (c .entries + cond (not (fenceKind (s .kind))) 1 0) ss)
 
-  pub scan-formed : (ss : List Slot) → (scanned asked right started ss) .formed ≡ (inOrder ss && tagged right 0 ss)
+  pub scan-formed : (ss : List Slot) → (scanned asked right started ss) .formed ≡ (inOrder ss && tagged right 0 0 ss)
   unfolding started
   scan-formed ss = formed-from started ss ∙ rw (order-from-least ss)
 
@@ -103,7 +105,7 @@ module _ (asked : Pair) (right : ℕ → Slot → Bool) where
   fences-from : (c : Scan) (ss : List Slot) → (scanned asked right c ss) .fences ≡ c .fences + length (fencePages ss)
   unfolding scanned stepped fencePages passing
   fences-from c [] = sym (add-zero (c .fences))
-  fences-from c (s ∷ ss) = fences-from (stepped asked c s (right (c .fences) s)) ss ∙ counted (fenceKind (s .kind)) refl
+  fences-from c (s ∷ ss) = fences-from (stepped asked c s (right (c .fences) (c .entries) s)) ss ∙ counted (fenceKind (s .kind)) refl
     where
       counted : (b : Bool) → fenceKind (s .kind) ≡ b →
           c .fences + cond (fenceKind (s .kind)) 1 0 + length (fencePages ss) ≡ c .fences + length (fencePages (s ∷ ss))
@@ -114,11 +116,61 @@ module _ (asked : Pair) (right : ℕ → Slot → Bool) where
   unfolding started
   scan-fences ss = fences-from started ss ∙ omega arith
 
+  -- Index entries.
+  entries-from : (c : Scan) (ss : List Slot) → (scanned asked right c ss) .entries ≡ c .entries + length (entriesOf ss)
+  unfolding scanned stepped entriesOf
+  entries-from c [] = sym (add-zero (c .entries))
+  entries-from c (s ∷ ss) = entries-from (stepped asked c s (right (c .fences) (c .entries) s)) ss ∙ counted (fenceKind (s .kind)) refl
+    where
+      counted : (b : Bool) → fenceKind (s .kind) ≡ b →
+          c .entries + cond (not (fenceKind (s .kind))) 1 0 + length (entriesOf ss) ≡ c .entries + length (entriesOf (s ∷ ss))
+      counted true e = rw (e, entriesOf) (omega arith)
+      counted false e = rw (e, entriesOf) (omega arith)
+
+  pub scan-entries : (ss : List Slot) → (scanned asked right started ss) .entries ≡ length (entriesOf ss)
+  unfolding started
+  scan-entries ss = entries-from started ss ∙ omega arith
+
+  -- The first slot that breaks a rule: with it the slots up to it are no longer right.
+  breaks-at-once : (c : Scan) (ss : List Slot) → c .formed ≡ false → firstNot (λ j. (scanned asked right c (take (suc j) ss)) .formed) (length ss) ≡ 0
+  unfolding scanned stepped firstNot firstFrom
+  breaks-at-once c [] e = refl
+  breaks-at-once c (s ∷ ss) e = first-at-once (λ j. (scanned asked right c (take (suc j) (s ∷ ss))) .formed) (suc (length ss)) (rw e)
+
+  one-more : (c : Scan) (s : Slot) (b : Bool) → (stepped asked c s b) .breaking ≡ c .breaking + cond ((stepped asked c s b) .formed) 1 0
+  unfolding stepped
+  one-more c s b = refl
+
+  breaking-from : (c : Scan) (ss : List Slot) →
+      (scanned asked right c ss) .breaking ≡ c .breaking + firstNot (λ j. (scanned asked right c (take (suc j) ss)) .formed) (length ss)
+  unfolding scanned firstNot firstFrom
+  breaking-from c [] = sym (add-zero (c .breaking))
+  breaking-from c (s ∷ ss) = breaking-from next ss ∙ by (next .formed) refl
+    where
+      next : Scan
+      next = stepped asked c s (right (c .fences) (c .entries) s)
+
+      t : ℕ → Bool
+      t = λ j. (scanned asked right c (take (suc j) (s ∷ ss))) .formed
+
+      bit : (b : Bool) → next .formed ≡ b → next .breaking ≡ c .breaking + cond b 1 0
+      bit b e = one-more c s (right (c .fences) (c .entries) s) ∙ ap (λ (x : Bool). c .breaking + cond x 1 0) e
+
+      by : (b : Bool) → next .formed ≡ b →
+          next .breaking + firstNot (λ j. (scanned asked right next (take (suc j) ss)) .formed) (length ss) ≡ c .breaking + firstNot t (suc (length ss))
+      by true e = omega (arith, bit true e, first-later t (length ss) e)
+      by false e = omega (arith, bit false e, first-at-once t (suc (length ss)) e, breaks-at-once next ss e)
+
+  pub scan-breaking : (ss : List Slot) →
+      (scanned asked right started ss) .breaking ≡ firstNot (λ j. (scanned asked right started (take (suc j) ss)) .formed) (length ss)
+  unfolding started
+  scan-breaking ss = breaking-from started ss ∙ omega arith
+
   -- The slots at most the pair asked.
   reach-from : (c : Scan) (ss : List Slot) → (scanned asked right c ss) .reach ≡ c .reach + length (passing (upTo asked) ss)
   unfolding scanned stepped passing
   reach-from c [] = sym (add-zero (c .reach))
-  reach-from c (s ∷ ss) = reach-from (stepped asked c s (right (c .fences) s)) ss ∙ counted (before asked (s .pair)) refl
+  reach-from c (s ∷ ss) = reach-from (stepped asked c s (right (c .fences) (c .entries) s)) ss ∙ counted (before asked (s .pair)) refl
     where
       counted : (b : Bool) → before asked (s .pair) ≡ b →
           c .reach + cond (not (before asked (s .pair))) 1 0 + length (passing (upTo asked) ss) ≡ c .reach + length (passing (upTo asked) (s ∷ ss))
@@ -141,78 +193,117 @@ slots-counted (s ∷ ss) = counted (fenceKind (s .kind)) refl (slots-counted ss)
     counted false e ih = rw (e, entriesOf, entry-listed s ss e) (omega arith)
 
 -- In a page every tag is legal by itself.
-pub legal-tagged : (below i : ℕ) (ss : List Slot) → tagged (legalBelow below) i ss ≡ all (legal true below) ss
+legal-tagged : (below i m : ℕ) (ss : List Slot) → tagged (legalBelow below) i m ss ≡ all (legal true below) ss
 unfolding tagged legalBelow all
-legal-tagged below i [] = refl
-legal-tagged below i (s ∷ ss) =
-    rw (all-cons (legal true below) s ss) (ap (λ (b : Bool). legal true below s && b) (legal-tagged below (i + cond (fenceKind (s .kind)) 1 0) ss))
+legal-tagged below i m [] = refl
+legal-tagged below i m (s ∷ ss) =
+    rw (all-cons (legal true below) s ss)
+    (ap (λ (b : Bool). legal true below s && b) (legal-tagged below (i + cond (fenceKind (s .kind)) 1 0) (m + cond (not (fenceKind (s .kind))) 1 0) ss))
 
--- No numbers are left of those up to n exactly at n.
-none-left : (i n : ℕ) → i ≤ n → equal [] (span (λ p. p) i (n - i)) ≡ eqb i n
-unfolding equal
-none-left i n h = compared (eqb i n) refl
+-- In the head every tag is legal, the fences from number i on name pages in turn, and the entries, with m before them, stay fewer than H.
+tags-from : (n head i m : ℕ) (ss : List Slot) → m < head →
+    tagged (headTag n head) i m ss ≡
+    (all (legal false n) ss && equal (fencePages ss) (span (λ p. p) i (length (fencePages ss))) && ltb (m + length (entriesOf ss)) head)
+unfolding tagged fencePages passing all equal span entriesOf
+tags-from n head i m [] h = sym (lt-ltb (m + 0) head (omega arith))
+tags-from n head i m (s ∷ ss) h = by-kind (fenceKind (s .kind)) refl (ltb (m + 1) head) refl (λ j q. tags-from n head j q ss)
   where
-    compared : (b : Bool) → eqb i n ≡ b → equal [] (span (λ p. p) i (n - i)) ≡ b
-    compared true e = rw (span-end (λ p. p) i n (omega (arith, eqb-true i n e)))
-    compared false e =
-        let d : i ≢ n = eqb-false i n e in
-        rw (span-next (λ p. p) i n (omega arith))
-
--- In the head the fences from number i on name pages in turn up to n, and no further, and every tag is legal.
-turn-from : (n i : ℕ) (ss : List Slot) → i ≤ n →
-    (tagged inTurn i ss && eqb (i + length (fencePages ss)) n) ≡ (all (legal false n) ss && equal (fencePages ss) (span (λ p. p) i (n - i)))
-unfolding tagged fencePages passing all equal
-turn-from n i [] h = rw (add-zero i) (sym (none-left i n h))
-turn-from n i (s ∷ ss) h = by-kind (fenceKind (s .kind)) refl (turn-from n (i + cond (fenceKind (s .kind)) 1 0) ss)
-  where
-    next : ℕ
-    next = i + cond (fenceKind (s .kind)) 1 0
+    Goal : Type 0
+    Goal =
+        tagged (headTag n head) i m (s ∷ ss) ≡
+        (all (legal false n) (s ∷ ss) && equal (fencePages (s ∷ ss)) (span (λ p. p) i (length (fencePages (s ∷ ss)))) && ltb (m + length (entriesOf (s ∷ ss))) head)
 
     Rest : Type 0
     Rest =
-        next ≤ n →
-        (tagged inTurn next ss && eqb (next + length (fencePages ss)) n) ≡ (all (legal false n) ss && equal (fencePages ss) (span (λ p. p) next (n - next)))
+        (j q : ℕ) → q < head →
+        tagged (headTag n head) j q ss ≡
+        (all (legal false n) ss && equal (fencePages ss) (span (λ p. p) j (length (fencePages ss))) && ltb (q + length (entriesOf ss)) head)
 
-    Goal : Type 0
-    Goal =
-        (inTurn i s && tagged inTurn next ss && eqb (i + length (fencePages (s ∷ ss))) n) ≡
-        (all (legal false n) (s ∷ ss) && equal (fencePages (s ∷ ss)) (span (λ p. p) i (n - i)))
+    regroup : (a b x y z : Bool) → (a && b && (x && y && z)) ≡ (a && x && (b && y) && z)
+    regroup false b x y z = refl
+    regroup true false false y z = refl
+    regroup true false true y z = refl
+    regroup true true x y z = refl
 
-    one-more : (b : Bool) → eqb i n ≡ b → fenceKind (s .kind) ≡ true → Rest → Goal
-    one-more true f e ih =
-        let m : i + length (fencePages (s ∷ ss)) ≢ n = omega (arith, eqb-true i n f, ap length (fence-listed s ss e)) in
-        rw (ne-eqb (i + length (fencePages (s ∷ ss))) n m, and-false, fence-listed s ss e, span-end (λ p. p) i n (omega (arith, eqb-true i n f)))
-        (sym (and-false (all (legal false n) (s ∷ ss))))
-    one-more false f e ih =
-        let d : i ≢ n = eqb-false i n f in
-        let t : next ≡ i + 1 = rw e in
-        let g : i + length (fencePages (s ∷ ss)) ≡ next + length (fencePages ss) = omega (arith, t, ap length (fence-listed s ss e)) in
-        rw g (and-assoc (inTurn i s) (tagged inTurn next ss) (eqb (next + length (fencePages ss)) n)) ∙
-        ap (λ (b : Bool). inTurn i s && b) (ih (omega (arith, t))) ∙
-        rw (fence-in-turn i n s e (omega arith), all-cons (legal false n) s ss, fence-listed s ss e, span-next (λ p. p) i n (omega arith), equal-cons, t)
-        (and-regroup true (legal false n s) (eqb (s .page .0) i) (all (legal false n) ss) _)
+    regroup-few : (a x y z : Bool) → (a && true && (x && y && z)) ≡ (a && x && y && z)
+    regroup-few false x y z = refl
+    regroup-few true x y z = refl
 
-    by-kind : (b : Bool) → fenceKind (s .kind) ≡ b → Rest → Goal
-    by-kind true e ih = one-more (eqb i n) refl e ih
-    by-kind false e ih =
-        let t : next ≡ i = rw e (add-zero i) in
-        rw (t, entry-listed s ss e, all-cons (legal false n) s ss, ← entry-in-turn i n s e)
-        (and-assoc (inTurn i s) (tagged inTurn i ss) (eqb (i + length (fencePages ss)) n) ∙
-        ap (λ (b : Bool). inTurn i s && b) (rw t at (ih (omega (arith, t)))) ∙
-        sym (and-assoc (inTurn i s) (all (legal false n) ss) (equal (fencePages ss) (span (λ p. p) i (n - i)))))
+    by-kind : (b : Bool) → fenceKind (s .kind) ≡ b → (few : Bool) → ltb (m + 1) head ≡ few → Rest → Goal
+    by-kind true e few q rest =
+        rw (
+          e,
+          tagged,
+          fence-tag n head i m s e,
+          fence-listed s ss e,
+          entriesOf,
+          all-cons (legal false n) s ss,
+          equal-cons,
+          add-zero m,
+          add-one i,
+          rest (suc i) m h,
+        )
+        (regroup (legal false n s) (eqb (s .page .0) i) (all (legal false n) ss) (equal (fencePages ss) (span (λ p. p) (suc i) (length (fencePages ss)))) (ltb (m + length (entriesOf ss)) head))
+    by-kind false e true q rest =
+        let on : m + 1 + length (entriesOf ss) ≡ m + suc (length (entriesOf ss)) = omega arith in
+        rw (e, tagged, entry-tag n head i m s e, entry-listed s ss e, entriesOf, all-cons (legal false n) s ss, add-zero i, rest i (m + 1) (ltb-true (m + 1) head q), on, q)
+        (regroup-few (legal false n s) (all (legal false n) ss) (equal (fencePages ss) (span (λ p. p) i (length (fencePages ss)))) (ltb (m + suc (length (entriesOf ss))) head))
+    by-kind false e false q rest =
+        let many : ltb (m + suc (length (entriesOf ss))) head ≡ false = le-ltb (m + suc (length (entriesOf ss))) head (omega (arith, ltb-false (m + 1) head q)) in
+        rw (e, tagged, entry-tag n head i m s e, entry-listed s ss e, entriesOf, q, many, and-false)
+        (sym (and-false (all (legal false n) (s ∷ ss) && equal (fencePages ss) (span (λ p. p) i (length (fencePages ss))))))
 
--- What a pass tests of a page, and what one over the head tests of it with the number of its fences.
+-- What a pass tests of the slots of a page and of the head.
 pub page-tested : (asked : Pair) (below : ℕ) (ss : List Slot) →
     (scanned asked (legalBelow below) started ss) .formed ≡ (inOrder ss && all (legal true below) ss)
-page-tested asked below ss = scan-formed asked (legalBelow below) ss ∙ rw (legal-tagged below 0 ss)
+page-tested asked below ss = scan-formed asked (legalBelow below) ss ∙ rw (legal-tagged below 0 0 ss)
 
-pub head-tested : (asked : Pair) (n : ℕ) (ss : List Slot) →
-    ((scanned asked inTurn started ss) .formed && eqb ((scanned asked inTurn started ss) .fences) n) ≡
-    (inOrder ss && (all (legal false n) ss && equal (fencePages ss) (span (λ p. p) 0 n)))
-head-tested asked n ss =
-    rw (scan-formed asked inTurn ss, scan-fences asked inTurn ss)
-    (and-assoc (inOrder ss) (tagged inTurn 0 ss) (eqb (length (fencePages ss)) n) ∙
-    ap (λ (b : Bool). inOrder ss && b) (rw (zero-add (length (fencePages ss)), sub-zero n) at (turn-from n 0 ss (omega arith))))
+pub head-tested : (asked : Pair) (n head : ℕ) (ss : List Slot) → 1 ≤ head →
+    (scanned asked (headTag n head) started ss) .formed ≡
+    (ltb (length (entriesOf ss)) head && inOrder ss && all (legal false n) ss && equal (fencePages ss) (span (λ p. p) 0 (length (fencePages ss))))
+head-tested asked n head ss h =
+    scan-formed asked (headTag n head) ss ∙
+    rw (tags-from n head 0 0 ss h, zero-add (length (entriesOf ss)))
+    (few-first (inOrder ss) (all (legal false n) ss) (equal (fencePages ss) (span (λ p. p) 0 (length (fencePages ss)))) (ltb (length (entriesOf ss)) head))
+  where
+    few-first : (a b c d : Bool) → (a && (b && c && d)) ≡ (d && a && b && c)
+    few-first false b c true = refl
+    few-first false b c false = refl
+    few-first true b c true = and-true (b && c)
+    few-first true b c false = and-false (b && c)
+
+-- The first slot that breaks what is tested.
+pub page-breaking : (asked : Pair) (below : ℕ) (ss : List Slot) →
+    (scanned asked (legalBelow below) started ss) .breaking ≡ breaking (λ l. inOrder l && all (legal true below) l) ss
+unfolding breaking
+page-breaking asked below ss =
+    scan-breaking asked (legalBelow below) ss ∙ ap (λ (t : ℕ → Bool). firstNot t (length ss)) (fun-ext (λ j. page-tested asked below (take (suc j) ss)))
+
+pub head-breaking : (asked : Pair) (n head : ℕ) (ss : List Slot) → 1 ≤ head →
+    (scanned asked (headTag n head) started ss) .breaking ≡
+    breaking (λ l. ltb (length (entriesOf l)) head && inOrder l && all (legal false n) l && equal (fencePages l) (span (λ p. p) 0 (length (fencePages l)))) ss
+unfolding breaking
+head-breaking asked n head ss h =
+    scan-breaking asked (headTag n head) ss ∙ ap (λ (t : ℕ → Bool). firstNot t (length ss)) (fun-ext (λ j. head-tested asked n head (take (suc j) ss) h))
+
+-- Numbers are 0, 1, … up to n exactly if they are as far as they go, and there are n of them.
+pub equal-in-turn : (l : List ℕ) (i n : ℕ) → equal l (span (λ p. p) i n) ≡ (equal l (span (λ p. p) i (length l)) && eqb (length l) n)
+unfolding equal span
+equal-in-turn [] i zero = refl
+equal-in-turn [] i (suc n) = sym (ne-eqb 0 (suc n) (λ z. absurd (omega (arith, z))))
+equal-in-turn (m ∷ l) i zero =
+    rw (ne-eqb (suc (length l)) 0 (λ z. absurd (omega (arith, z)))) (sym (and-false (equal (m ∷ l) (span (λ p. p) i (suc (length l))))))
+equal-in-turn (m ∷ l) i (suc n) = by (eqb m i) (equal-in-turn l (suc i) n) (eqb (length l) n) refl
+  where
+    next : (b : Bool) → eqb (length l) n ≡ b → eqb (suc (length l)) (suc n) ≡ b
+    next true e = eq-eqb (suc (length l)) (suc n) (ap suc (eqb-true (length l) n e))
+    next false e = ne-eqb (suc (length l)) (suc n) (λ z. eqb-false (length l) n e (omega (arith, z)))
+
+    by : (b : Bool) → equal l (span (λ p. p) (suc i) n) ≡ (equal l (span (λ p. p) (suc i) (length l)) && eqb (length l) n) → (c : Bool) → eqb (length l) n ≡ c →
+        elim b as (λ _. Bool) [ true ↦ equal l (span (λ p. p) (suc i) n) | false ↦ false ] ≡
+        (elim b as (λ _. Bool) [ true ↦ equal l (span (λ p. p) (suc i) (length l)) | false ↦ false ] && eqb (suc (length l)) (suc n))
+    by true ih c e = ih ∙ rw (next c e, e)
+    by false ih c e = refl
 
 module _ (asked : Pair) where
   -- In slot order, what follows a slot above the pair asked is above it too, so the slots at most the pair stand first.

@@ -7,8 +7,8 @@ ghost use Rattle.slot.specs.Slot.{slotAt};
 ghost use Rattle.rules.specs.Level.{fenceKind};
 ghost use Rattle.rules.specs.Finding.{normalKind};
 ghost use Rattle.rules.specs.Sound.{legal, slotsFrom};
-ghost use Rattle.page.specs.Scan.{started, stepped, scanned, mayFollow};
-ghost use Rattle.page.specs.Tag.{legalBelow, inTurn, pagesNamed, pageDue, internalKind};
+ghost use Rattle.page.specs.Scan.{Within, started, stepped, scanned, mayFollow};
+ghost use Rattle.page.specs.Tag.{legalBelow, inTurn, headTag, roomFor, pagesNamed, pageDue, internalKind};
 ghost use Rattle.page.specs.Tell.{fenceBack, metIn};
 ghost use Rattle.geometry.specs.Places.{wordsInSlot};
 use geometry::SLOT_WORDS;
@@ -30,9 +30,11 @@ pub struct Scan {
     // The last slot's rank, and whether it was a fence.
     pub last: u64,
     pub last_fence: bool,
-    // Slot order and right tags.
+    // Slot order and right tags, and the slots before the first that breaks one of them.
     pub formed: bool,
+    pub breaking: u32,
     pub fences: u32,
+    pub entries: u32,
     // The slots whose pair is at most the pair asked.
     pub reach: u32,
 }
@@ -58,17 +60,27 @@ pub fn scan_page(words: &[u32], place: usize, count: usize, asked: Pair, below: 
     scan
 }
 
-// A pass over the head: its `count` slots stand from a place on, and its fences name pages 0, 1, … in turn.
-pub fn scan_head(words: &[u32], place: usize, count: usize, asked: Pair) -> Scan
+// A pass over the head: its `count` slots stand from a place on, its fences name the pages below in turn, and its index entries are fewer
+// than `head`.
+pub fn scan_head(
+    words: &[u32],
+    place: usize,
+    count: usize,
+    asked: Pair,
+    below: u32,
+    head: u32,
+) -> Scan
     requires { ⌜ (place + wordsInSlot * count ≤ length (now words)) × (count ≤ 4096) ⌝ }
-    ensures exact { λ r. ⌜ r ≡ scanned asked inTurn started (slotsFrom (now (words .entry)) place count) ⌝ }
-    ensures few { λ r. ⌜ r .fences ≤ count ⌝ }
+    ensures { λ r. ⌜ r ≡ scanned asked (headTag below head) started (slotsFrom (now (words .entry)) place count) ⌝ }
 {
     let mut scan = scan_start();
     let mut j = 0;
     while j < count {
         let slot = read_slot(words, place + SLOT_WORDS * j);
-        scan = scan_step(scan, slot, asked, is_in_turn(slot, scan.fences));
+        let kind = slot.kind;
+        let fits = has_room(kind, scan.fences < below, scan.entries + 1 < head);
+        let right = both(is_in_turn(slot, scan.fences), fits);
+        scan = scan_step(scan, slot, asked, right);
         j += 1;
     }
     scan
@@ -82,14 +94,16 @@ fn scan_start() -> Scan
         last: 0,
         last_fence: true,
         formed: true,
+        breaking: 0,
         fences: 0,
+        entries: 0,
         reach: 0,
     }
 }
 
 // The pass with one slot more. The caller has tested the slot's tag.
 fn scan_step(scan: Scan, slot: Slot, asked: Pair, right: bool) -> Scan
-    requires { ⌜ (scan .fences ≤ 4096) × (scan .reach ≤ 4096) ⌝ }
+    requires { ⌜ Within 4096 scan ⌝ }
     ensures { λ r. ⌜ r ≡ stepped asked scan slot right ⌝ }
 {
     let pair = slot.pair;
@@ -97,11 +111,14 @@ fn scan_step(scan: Scan, slot: Slot, asked: Pair, right: bool) -> Scan
     let rank = rank_of(pair);
     let fence = is_fence(kind);
     let fits = both(may_follow(scan.last, scan.last_fence, rank), right);
+    let formed = both(scan.formed, fits);
     Scan {
         last: rank,
         last_fence: fence,
-        formed: both(scan.formed, fits),
+        formed,
+        breaking: scan.breaking + one_if(formed),
         fences: scan.fences + one_if(fence),
+        entries: scan.entries + one_if(!fence),
         reach: scan.reach + one_if(!comes_before(asked, pair)),
     }
 }
@@ -141,6 +158,18 @@ fn is_in_turn(slot: Slot, fences: u32) -> bool
     let kind = slot.kind;
     let page = slot.page;
     both(page.0 == page_due(kind, fences), !is_internal(kind))
+}
+
+// Whether the head may have one more slot of this kind: one more fence, or one more index entry.
+fn has_room(kind: Kind, fence: bool, entry: bool) -> bool
+    ensures { λ r. ⌜ r ≡ roomFor fence entry kind ⌝ }
+{
+    match kind {
+        Kind::Normal => entry,
+        Kind::Filter => entry,
+        Kind::External => fence,
+        Kind::Internal => fence,
+    }
 }
 
 // The page that a slot of this kind names in the head, after `fences` fences.

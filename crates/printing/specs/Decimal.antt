@@ -62,7 +62,7 @@ length-digit n h = ap length (decimal-digit n h)
 pub length-more : (n : ℕ) → 10 ≤ n → length (decimal n) ≡ length (decimal (n / 10)) + 1
 length-more n h = ap length (decimal-more n h) ∙ length-append (decimal (n / 10)) (digitCode (n % 10) ∷ [])
 
--- Below a power of ten there are no more digits than its exponent; so a number of 32 bits has ten at most, and one of 64 bits twenty.
+-- Below a power of ten there are no more digits than its exponent; so a number below 100 has two at most, one of 32 bits ten, and one of 64 bits twenty.
 digits-below : (k n : ℕ) → n < 10 ^ suc k → length (decimal n) ≤ suc k
 digits-below zero n h = omega (arith, length-digit n h)
 digits-below (suc k) n h = picked (ltb n 10) refl (digits-below k (n / 10))
@@ -73,6 +73,9 @@ digits-below (suc k) n h = picked (ltb n 10) refl (digits-below k (n / 10))
         let power : 10 ^ suc (suc k) ≡ 10 ^ suc k * 10 = pow-suc 10 (suc k) in
         let fewer : length (decimal (n / 10)) ≤ suc k = ih (omega arith) in
         omega (arith, length-more n (ltb-false n 10 e))
+
+pub two-digits : (n : ℕ) → n < 100 → length (decimal n) ≤ 2
+two-digits n h = digits-below 1 n (omega arith)
 
 pub word-digits : (n : ℕ) → n < 4294967296 → length (decimal n) ≤ 10
 word-digits n h = digits-below 9 n (omega arith)

@@ -4,7 +4,7 @@ use native.Mathlib.Omega.{arith}
 use mathlib.Core.Path.{_≡_, _∙_}
 use mathlib.Core.List.{List, [], _∷_, _++_}
 use lib.ListN.{length, length-append}
-use Rattle.printing.specs.Decimal.{decimal, length-digit, word-digits, long-digits}
+use Rattle.printing.specs.Decimal.{decimal, two-digits, word-digits, long-digits}
 use Rattle.printing.specs.Printed.{Printed, printed-then}
 
 -- What a number of 64 bits and the end of its line take at most: twenty digits and byte 10.
@@ -19,9 +19,9 @@ pub line-length : (name : List ℕ) (n : ℕ) → length (line name n) ≡ lengt
 unfolding line
 line-length name n = length-append name (decimal n ++ 10 ∷ []) ∙ rw (length-append (decimal n) (10 ∷ []))
 
--- A number below 10 has one digit, and one of 64 bits has twenty at most.
-pub line-digit : (name : List ℕ) (n : ℕ) → n < 10 → length (line name n) ≡ length name + 2
-line-digit name n h = line-length name n ∙ rw (length-digit n h)
+-- A number below 100 has two digits at most, and one of 64 bits twenty.
+pub line-two : (name : List ℕ) (n : ℕ) → n < 100 → length (line name n) ≤ length name + 3
+line-two name n h = omega (arith, line-length name n, two-digits n h)
 
 pub line-short : (name : List ℕ) (n : ℕ) → n < 18446744073709551616 → length (line name n) ≤ length name + numberRoom
 line-short name n h = omega (arith, line-length name n, long-digits n h)

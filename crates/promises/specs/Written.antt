@@ -12,7 +12,9 @@ use Rattle.rules.specs.Level.{slotsOf}
 use Rattle.rules.specs.Finding.{held}
 use Rattle.rules.specs.Merging.{State}
 use Rattle.rules.specs.Store.{writing}
-use Rattle.rules.specs.Sound.{treeOf, sound, fault}
+use Rattle.fault.specs.declared.Judged.the-variants.{Sound}
+use Rattle.rules.specs.Sound.{treeOf}
+use Rattle.rules.specs.Faults.{fault}
 use Rattle.geometry.specs.Directory.{geometryOf}
 use Rattle.rules.specs.Good.{Good, Fits}
 use Rattle.rules.specs.Reading.{Reads}
@@ -28,7 +30,7 @@ use Rattle.finding.specs.Walked.{walked-finds}
 use Rattle.good.specs.Cascade.{good-fits}
 
 -- A store that passes is the writing of the state that its words hold, and that state is good.
-pub sound-good : (g : Geometry) (w : List ℕ) → InRange g → geometryOf w ≡ g → length w ≡ storeWords g → WordsFit w → fault g w ≡ sound →
+pub sound-good : (g : Geometry) (w : List ℕ) → InRange g → geometryOf w ≡ g → length w ≡ storeWords g → WordsFit w → fault g w ≡ Sound →
     (w ≡ writing g (stateOf g w)) × Good g (stateOf g w)
 sound-good = sound-written
 
@@ -57,7 +59,7 @@ module _ (g : Geometry) (s : State) (fit : InRange g) (good : Good g s) where
   good-state = λ i. record { live = good-reads .live-pairs i; tree = good-tree i }
 
   -- It passes the whole-store test.
-  pub good-sound : fault g (writing g s) ≡ sound
+  pub good-sound : fault g (writing g s) ≡ Sound
   good-sound =
       written-sound g s fit good fits (directory-right g s (writing g s) fit good fits good-reads)
       (head-right g s (writing g s) fit good fits good-reads) (page-formed g s (writing g s) fit good fits good-reads) .0

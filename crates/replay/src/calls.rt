@@ -5,7 +5,6 @@ ghost use lib.ListN.{length};
 use crate::least;
 use crate::lines::end_line;
 use crate::lines::print_changes;
-use crate::lines::print_number;
 use crate::lines::print_reply;
 use crate::lines::print_words;
 use geometry::Geometry;
@@ -36,12 +35,10 @@ pub fn why_line(store: &[u32], pair: Pair) {
     end_line();
 }
 
-// The line has a second value, which a check has none of.
 pub fn check_line(store: &[u32]) {
     let reply = check_reply(index::check(store));
     let values = reply.values;
     print_reply(reply.number, &values);
-    print_number(0);
     end_line();
 }
 

@@ -1,5 +1,5 @@
 -- The number that a call replies is that of the first test, in the paper's order, that fails; 0 where every test passes. A refusal leaves every
--- lent word, and its values are zeros, but for 6 the level first. Assumes nothing.
+-- lent word, and its values are zeros, but from 10 on the place of the fault first. Assumes nothing.
 use Prim.Native.Nat.{ℕ, zero, suc}
 use mathlib.Core.Path.{_≡_, refl, sym, ap, _∙_}
 use mathlib.Core.Bool.{true, false}
@@ -9,13 +9,12 @@ use Rattle.geometry.specs.declared.Geometry.{Geometry}
 use Rattle.slot.specs.declared.Pair.{Pair}
 use Rattle.opening.specs.Reply.{Reply, firstFailing, byFirst, Filled}
 use Rattle.call_ask.specs.Ask.{askOf}
-use Rattle.walk.specs.Lines.{linesWords}
 use Rattle.call_why.specs.Why.{whyLines, whyValues, whyWords, whyOf}
 use Rattle.call_check.specs.Check.{checkOf}
 use Rattle.call_check.specs.List.{listOf}
 use Rattle.call_format.specs.Format.{formatTests, formatOf}
 use Rattle.call_put.specs.Edit.{Kept, putOf, dropOf}
-use Rattle.replies.specs.Order.{wholeFault, walkFault, putFault, dropFault, askTests, checkTests, listTests, putTests, dropTests, faultTold, askDone, askRefused, checkDone, checkRefused, listDone, listRefused, formatDone, formatRefused, editDone, editRefused}
+use Rattle.replies.specs.Order.{wholeFault, walkedFault, putFault, dropFault, askTests, checkTests, listTests, putTests, dropTests, faultTold, askDone, askRefused, checkDone, checkRefused, listDone, listRefused, formatDone, formatRefused, editDone, editRefused}
 use Rattle.replies.specs.Ordered.{ask-in-order, check-in-order, list-in-order, format-in-order, put-in-order, drop-in-order}
 
 -- A call x whose first failing test has the number n: it replies n, does its work where that is 0, and refuses with it otherwise.
@@ -73,7 +72,7 @@ module _ (w work : List ℕ) (p : Pair) where
   unfolding editRefused
   put-refusal-keeps h = (ap (λ (r : Kept). r .store) (put-refuses h), ap (λ (r : Kept). r .work) (put-refuses h))
 
-  pub put-refusal-values : (putReplied .number ≡ 0 → ⊥) → putReplied .values ≡ faultTold (putReplied .number) (putFault w p) ++ 0 ∷ 0 ∷ 0 ∷ 0 ∷ 0 ∷ 0 ∷ []
+  pub put-refusal-values : (putReplied .number ≡ 0 → ⊥) → putReplied .values ≡ faultTold (putReplied .number) (putFault w p) ++ 0 ∷ 0 ∷ 0 ∷ 0 ∷ []
   unfolding editRefused
   put-refusal-values h = ap (λ (r : Kept). r .reply .values) (put-refuses h)
 
@@ -99,7 +98,7 @@ module _ (w work : List ℕ) (p : Pair) where
   unfolding editRefused
   drop-refusal-keeps h = (ap (λ (r : Kept). r .store) (drop-refuses h), ap (λ (r : Kept). r .work) (drop-refuses h))
 
-  pub drop-refusal-values : (dropReplied .number ≡ 0 → ⊥) → dropReplied .values ≡ faultTold (dropReplied .number) (dropFault w p) ++ 0 ∷ 0 ∷ 0 ∷ 0 ∷ 0 ∷ 0 ∷ []
+  pub drop-refusal-values : (dropReplied .number ≡ 0 → ⊥) → dropReplied .values ≡ faultTold (dropReplied .number) (dropFault w p) ++ 0 ∷ 0 ∷ 0 ∷ 0 ∷ []
   unfolding editRefused
   drop-refusal-values h = ap (λ (r : Kept). r .reply .values) (drop-refuses h)
 
@@ -121,7 +120,7 @@ module _ (w : List ℕ) (p : Pair) where
   pub ask-refuses : (askReplied .number ≡ 0 → ⊥) → askOf w p ≡ askRefused w p (askReplied .number)
   ask-refuses = ask-ordered .refuses
 
-  pub ask-refusal-values : (askReplied .number ≡ 0 → ⊥) → askReplied .values ≡ faultTold (askReplied .number) (walkFault w p) ++ 0 ∷ []
+  pub ask-refusal-values : (askReplied .number ≡ 0 → ⊥) → askReplied .values ≡ faultTold (askReplied .number) (walkedFault w p)
   unfolding askRefused
   ask-refusal-values h = ap (λ (r : Reply). r .values) (ask-refuses h)
 
@@ -134,11 +133,11 @@ module _ (w : List ℕ) (p : Pair) where
   unfolding whyOf
   why-reply-first-failing = ask-reply-first-failing w p
 
-  pub why-refusal-values : (whyReplied .number ≡ 0 → ⊥) → whyReplied .values ≡ askOf w p .values ++ replicate 20 0
-  unfolding whyOf whyWords linesWords
+  pub why-refusal-values : (whyReplied .number ≡ 0 → ⊥) → whyReplied .values ≡ askOf w p .values ++ replicate 19 0
+  unfolding whyOf whyWords
   why-refusal-values h = by (askOf w p .number) refl
     where
-      by : (n : ℕ) → askOf w p .number ≡ n → whyValues (askOf w p) (whyLines w p) ≡ askOf w p .values ++ replicate 20 0
+      by : (n : ℕ) → askOf w p .number ≡ n → whyValues (askOf w p) (whyLines w p) ≡ askOf w p .values ++ replicate 19 0
       by zero e = absurd (h e)
       by (suc n) e = rw e refl
 
@@ -186,7 +185,7 @@ module _ (w : List ℕ) (first second : Pair) (slice : List ℕ) where
   unfolding listRefused
   list-refusal-keeps h = ap (λ (r : Filled). r .words) (list-refuses h)
 
-  pub list-refusal-values : (listReplied .number ≡ 0 → ⊥) → listReplied .values ≡ faultTold (listReplied .number) (wholeFault w) ++ 0 ∷ []
+  pub list-refusal-values : (listReplied .number ≡ 0 → ⊥) → listReplied .values ≡ faultTold (listReplied .number) (wholeFault w)
   unfolding listRefused
   list-refusal-values h = ap (λ (r : Filled). r .reply .values) (list-refuses h)
 

@@ -5,6 +5,9 @@ use mathlib.Core.Bool.{true, false}
 use mathlib.Core.List.{List}
 use lib.ListN.{getD}
 use lib.Dec.{eqb}
+use Rattle.fault.specs.declared.Part.{Part}
+use Rattle.fault.specs.declared.Part.the-variants.{Directory, Head, Page, Writing, Kinds}
+use Rattle.fault.specs.Numbers.{faultIn}
 use Rattle.geometry.specs.declared.Geometry.{Geometry}
 use Rattle.slot.specs.declared.Pair.{Pair}
 use Rattle.call_ask.specs.declared.Asked.{Asked}
@@ -22,7 +25,7 @@ use Rattle.call_check.specs.Check.{checkReply, checkOf}
 use Rattle.call_check.specs.List.{listReply, listOf}
 use Rattle.call_format.specs.Format.{formatReply, formatOf}
 
--- A choice by the reply's number: 0, 1, and 5 or 6 told apart by whether it is 5.
+-- A choice by the reply's number: 0, 1, 5, and any other for a fault.
 pick : {A : Type 0} → ℕ → A → A → A → A → A
 pick zero done range length fault = done
 pick (suc zero) done range length fault = range
@@ -30,7 +33,7 @@ pick (suc (suc n)) done range length fault = elim (eqb n 3) [ true ↦ length | 
 
 -- Ask.
 askedBy : Reply → Asked
-askedBy r = pick (r .number) (Answer (eqb (getD (r .values) 0 0) 1) (getD (r .values) 1 0)) Range Length (Fault (faultBy (r .values)))
+askedBy r = pick (r .number) (Answer (eqb (getD (r .values) 0 0) 1) (getD (r .values) 1 0)) Range Length (Fault (faultBy (r .number) (r .values)))
 
 ask-told : (a : Asked) → askedBy (askReply a) ≡ a
 unfolding askedBy pick
@@ -38,7 +41,14 @@ ask-told (Answer true level) = refl
 ask-told (Answer false level) = refl
 ask-told Range = refl
 ask-told Length = refl
-ask-told (Fault fault) = refl
+ask-told (Fault fault) = by (fault .part)
+  where
+    by : (part : Part) → askedBy (askReply (Fault (faultIn part (fault .level) (fault .page) (fault .slot)))) ≡ Fault (faultIn part (fault .level) (fault .page) (fault .slot))
+    by Directory = refl
+    by Head = refl
+    by Page = refl
+    by Writing = refl
+    by Kinds = refl
 
 pub ask-has-one-answer : (w : List ℕ) (pair : Pair) (a b : Asked) → askReply a ≡ askOf w pair → askReply b ≡ askOf w pair → a ≡ b
 ask-has-one-answer w pair a b p q = sym (ask-told a) ∙ ap askedBy (p ∙ sym q) ∙ ask-told b
@@ -49,14 +59,22 @@ why-has-one-answer w pair a b t u p q x y = (ask-has-one-answer w pair a b p q, 
 
 -- Check.
 checkedBy : Reply → Checked
-checkedBy r = pick (r .number) Done Range-of-check Length-of-check (Fault-of-check (faultBy (r .values)))
+checkedBy r = pick (r .number) Done Range-of-check Length-of-check (Fault-of-check (faultBy (r .number) (r .values)))
 
 check-told : (a : Checked) → checkedBy (checkReply a) ≡ a
 unfolding checkedBy pick
 check-told Done = refl
 check-told Range-of-check = refl
 check-told Length-of-check = refl
-check-told (Fault-of-check fault) = refl
+check-told (Fault-of-check fault) = by (fault .part)
+  where
+    by : (part : Part) →
+        checkedBy (checkReply (Fault-of-check (faultIn part (fault .level) (fault .page) (fault .slot)))) ≡ Fault-of-check (faultIn part (fault .level) (fault .page) (fault .slot))
+    by Directory = refl
+    by Head = refl
+    by Page = refl
+    by Writing = refl
+    by Kinds = refl
 
 pub check-has-one-answer : (w : List ℕ) (a b : Checked) → checkReply a ≡ checkOf w → checkReply b ≡ checkOf w → a ≡ b
 check-has-one-answer w a b p q = sym (check-told a) ∙ ap checkedBy (p ∙ sym q) ∙ check-told b
@@ -65,14 +83,22 @@ check-has-one-answer w a b p q = sym (check-told a) ∙ ap checkedBy (p ∙ sym 
 shownBy : Filled → Shown
 shownBy f =
     let r = f .reply in
-    pick (r .number) (Pairs (getD (r .values) 0 0) (getD (r .values) 1 0)) Range-of-list Length-of-list (Fault-of-list (faultBy (r .values)))
+    pick (r .number) (Pairs (getD (r .values) 0 0) (getD (r .values) 1 0)) Range-of-list Length-of-list (Fault-of-list (faultBy (r .number) (r .values)))
 
 list-told : (a : Shown) (words : List ℕ) → shownBy (listReply a words) ≡ a
 unfolding shownBy pick
 list-told (Pairs pairs mark) words = refl
 list-told Range-of-list words = refl
 list-told Length-of-list words = refl
-list-told (Fault-of-list fault) words = refl
+list-told (Fault-of-list fault) words = by (fault .part)
+  where
+    by : (part : Part) →
+        shownBy (listReply (Fault-of-list (faultIn part (fault .level) (fault .page) (fault .slot))) words) ≡ Fault-of-list (faultIn part (fault .level) (fault .page) (fault .slot))
+    by Directory = refl
+    by Head = refl
+    by Page = refl
+    by Writing = refl
+    by Kinds = refl
 
 pub list-has-one-answer : (w : List ℕ) (first second : Pair) (slice : List ℕ) (a b : Shown) (v u : List ℕ) →
     listReply a v ≡ listOf w first second slice → listReply b u ≡ listOf w first second slice → (a ≡ b) × (v ≡ u)

@@ -4,17 +4,20 @@ use Prim.Native.Nat.{ℕ}
 use mathlib.Core.Path.{_≡_, refl, sym, ap, _∙_}
 use mathlib.Core.List.{List, [], _∷_}
 use lib.ListN.{getD, drop}
+use Rattle.fault.specs.declared.Part.{Part}
+use Rattle.fault.specs.declared.Part.the-variants.{Directory, Head, Page, Writing, Kinds}
+use Rattle.fault.specs.Numbers.{faultIn}
 use Rattle.slot.specs.declared.Pair.{Pair}
 use Rattle.call_put.specs.declared.Edited.{Edited}
 use Rattle.call_put.specs.declared.Edited.the-variants.{Done, Range, Length, Fault, Held, Missing, Full}
 use Rattle.opening.specs.Reply.{faultBy}
 use Rattle.call_put.specs.Edit.{Kept, editReply, putOf, dropOf}
 
--- The answer by the reply's number, 0 to 6, and the entries behind the three values before them.
+-- The answer by the reply's number, 0 to 5, or any other for a fault, and the entries behind the three values before them.
 editedBy : Kept → Edited
 editedBy k =
     let v = k .reply .values in
-    getD (Done (getD v 0 0) (getD v 1 0) (getD v 2 0) ∷ Range ∷ Held ∷ Missing ∷ Full ∷ Length ∷ []) (k .reply .number) (Fault (faultBy v))
+    getD (Done (getD v 0 0) (getD v 1 0) (getD v 2 0) ∷ Range ∷ Held ∷ Missing ∷ Full ∷ Length ∷ []) (k .reply .number) (Fault (faultBy (k .reply .number) v))
 
 module _ (entries store work : List ℕ) where
   answer-told : (a : Edited) → editedBy (editReply a entries store work) ≡ a
@@ -22,7 +25,15 @@ module _ (entries store work : List ℕ) where
   answer-told (Done live deepest pages) = refl
   answer-told Range = refl
   answer-told Length = refl
-  answer-told (Fault fault) = refl
+  answer-told (Fault fault) = by (fault .part)
+    where
+      by : (part : Part) →
+          editedBy (editReply (Fault (faultIn part (fault .level) (fault .page) (fault .slot))) entries store work) ≡ Fault (faultIn part (fault .level) (fault .page) (fault .slot))
+      by Directory = refl
+      by Head = refl
+      by Page = refl
+      by Writing = refl
+      by Kinds = refl
   answer-told Held = refl
   answer-told Missing = refl
   answer-told Full = refl

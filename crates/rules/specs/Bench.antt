@@ -1,7 +1,7 @@
 -- The bench table: its starred cases, its list case and the errors that look right, computed by the rules as one statement over one list
 -- of cases.
 -- Assumes nothing.
-use Prim.Native.Nat.{ℕ, suc, _+_, _*_}
+use Prim.Native.Nat.{ℕ, _+_, _*_}
 use mathlib.Core.Path.{_≡_, refl}
 use mathlib.Core.Bool.{Bool, true, false}
 use mathlib.Core.List.{List, [], _∷_, _++_, map}
@@ -20,7 +20,11 @@ use Rattle.rules.specs.Finding.{find, held, atMost, stepBack, tellFrom, 
 use Rattle.rules.specs.Merging.{toggle, join, merge, pagesWritten, settle, toggleHead, edit, formatted, entries, Outcome, refused, done, put, remove}
 use Rattle.rules.specs.Listing.{insert, pairsWith, pairsOf, heldBetween, pairWords, list}
 use Rattle.rules.specs.Store.{runWords, pageWords, levelWords, pageCount, directory, laidOut, writing}
-use Rattle.rules.specs.Sound.{slotsFrom, headSlots, countAt, pageSlots, levelSlots, entriesOf, firstAt, treeOf, pagesRight, directoryRight, follows, inOrder, legal, fencePages, firstIsLeast, headRight, countRight, pageFormed, ascending, levelLaid, withinCapacity, levelSound, headSound, alternating, countKind, liveRight, Judged, sound, faultAt, levelsFault, acrossFault, else, fault}
+use Rattle.rules.specs.Sound.{slotsFrom, headSlots, countAt, pageSlots, levelSlots, entriesOf, firstAt, treeOf, pagesRight, directoryRight, follows, inOrder, legal, fencePages, firstIsLeast, headRight, countRight, pageFormed, ascending, levelLaid, withinCapacity, levelSound, headSound, alternating, countKind, liveRight}
+use Rattle.fault.specs.Numbers.{numberOf}
+use Rattle.fault.specs.declared.Judged.{Judged}
+use Rattle.fault.specs.declared.Judged.the-variants.{Sound, FaultAt}
+use Rattle.rules.specs.Faults.{firstFault, kindsFaults, formFault, formFaults, writingFault, writingFaults, acrossFault, fault}
 use Rattle.geometry.specs.Directory.{pagesOf}
 use Rattle.rules.specs.Requests.{Request, putting, dropping, step, run, final, accepted, writes}
 use Rattle.rules.specs.Allowance.{allowedTo, allowed}
@@ -57,8 +61,8 @@ bit false = 0
 
 -- 0 for a sound store, else one more than the level told.
 abbrev pub faultNumber : Judged → ℕ
-faultNumber sound = 0
-faultNumber (faultAt f) = suc (f .level)
+faultNumber Sound = 0
+faultNumber (FaultAt f) = numberOf (f .part)
 
 -- Page counts of levels 1 on.
 unfoldable pub pagesIn : List (List Slot) → List ℕ
@@ -242,5 +246,5 @@ table =
 
 -- The rules give what the table says.
 pub bench-table : map observed table ≡ map (λ c. c .shows) table
-unfolding step run final accepted writes puts drops pagesIn seen observed case1 case2 case2′ case3 case4 case5 case5′ case6 case7 case8 case9 case11 cancels staysDropped smallerBadge fenceFirst table span concat passing capacity most total roomOver room roomBefore rank least before same kindNamed kindOf pageOf tagOf wordsOf index external internal pagesFor firstOf fenceOf fences place weave paged over layOn laid headOn slotsOf pageSlotsOf find held atMost stepBack tellFrom tell walk ask toggle join merge pagesWritten settle toggleHead edit formatted entries refused done put remove allowedTo allowed headRoom levelStart pagePlace slotPlace slotAt insert pairsWith pairsOf heldBetween pairWords list runWords pageWords levelWords pageCount directory laidOut writing pagesOf slotsFrom headSlots countAt pageSlots levelSlots entriesOf firstAt treeOf pagesRight directoryRight follows inOrder legal fencePages firstIsLeast headRight countRight pageFormed ascending levelLaid withinCapacity levelSound headSound alternating countKind liveRight levelsFault acrossFault else fault all equal
+unfolding step run final accepted writes puts drops pagesIn seen observed case1 case2 case2′ case3 case4 case5 case5′ case6 case7 case8 case9 case11 cancels staysDropped smallerBadge fenceFirst table span concat passing capacity most total roomOver room roomBefore rank least before same kindNamed kindOf pageOf tagOf wordsOf index external internal pagesFor firstOf fenceOf fences place weave paged over layOn laid headOn slotsOf pageSlotsOf find held atMost stepBack tellFrom tell walk ask toggle join merge pagesWritten settle toggleHead edit formatted entries refused done put remove allowedTo allowed headRoom levelStart pagePlace slotPlace slotAt insert pairsWith pairsOf heldBetween pairWords list runWords pageWords levelWords pageCount directory laidOut writing pagesOf slotsFrom headSlots countAt pageSlots levelSlots entriesOf firstAt treeOf pagesRight directoryRight follows inOrder legal fencePages firstIsLeast headRight countRight pageFormed ascending levelLaid withinCapacity levelSound headSound alternating countKind liveRight firstFault kindsFaults formFault formFaults writingFault writingFaults acrossFault fault all equal
 bench-table = refl

@@ -8,6 +8,9 @@
 --   Listing   "List"
 --   Store     the writing of a whole store, word by word
 --   Sound     "Sound stores"
+--   Faults    the numbers and places of faults
+--   Faultless laws of a test that finds no fault
+--   Found     laws of the first fault of several tests
 --   Directed  laws of a right directory
 --   Pages     laws of the number of pages that slots take
 --   Woven     laws of entries woven with fences
@@ -25,6 +28,9 @@ pub mod Merging
 pub mod Listing
 pub mod Store
 pub mod Sound
+pub mod Faults
+pub mod Faultless
+pub mod Found
 pub mod Directed
 pub mod Pages
 pub mod Woven

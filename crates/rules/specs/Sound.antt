@@ -1,12 +1,11 @@
--- The paper's section "Sound stores", on any words: what put, drop and ask look at, and the whole-store test with the level that reply 6
--- tells. The geometry is in range and the length right. Assumes nothing.
-use Prim.Native.Nat.{ℕ, zero, suc, _+_, _*_, min}
+-- The paper's section "Sound stores", on any words: what put, drop and ask look at, and what the whole-store test adds.
+-- The geometry is in range and the length right. Assumes nothing.
+use Prim.Native.Nat.{ℕ, suc, _+_, _*_, min}
 use mathlib.Core.Bool.{Bool, true, false, not, _&&_, _||_, Bool·beq}
 use mathlib.Core.List.{List, [], _∷_, map}
 use lib.ListN.{length, getD, take, drop}
 use lib.Dec.{ltb, leb, eqb}
 use Rattle.laws.specs.Lists.{span, concat, passing, all, equal}
-use Rattle.fault.specs.declared.Fault.{Fault}
 use Rattle.geometry.specs.declared.Geometry.{Geometry}
 use Rattle.geometry.specs.Geometry.{bottom, capacity, most, room}
 use Rattle.geometry.specs.Places.{liveWord, pagesWord, modeWord, openMode, headCountWord, headStart, headRoom, levelStart, pagePlace, slotPlace, slotsInPage, wordsInSlot, wordsInPage}
@@ -16,7 +15,7 @@ use Rattle.slot.specs.declared.Kind.{Kind}
 use Rattle.slot.specs.declared.Kind.the-variants.{Normal, Filter, External, Internal}
 use Rattle.slot.specs.Pair.{least, before, same}
 use Rattle.slot.specs.Slot.{slotAt}
-use Rattle.rules.specs.Tree.{Level, Tree}
+use Rattle.rules.specs.Tree.{Entry, Level, Tree}
 use Rattle.rules.specs.Level.{index, fenceKind, pagesFor, fences, weave, paged}
 use Rattle.rules.specs.Finding.{normalKind, held}
 use Rattle.rules.specs.Store.{runWords, levelWords}
@@ -154,9 +153,12 @@ headSound g w =
 
 -- For each pair, its entries from the top down alternate in kind and the lowest is normal: each is normal exactly if the pair is not
 -- held below.
+abbrev pub rightOver : Tree → Entry → Bool
+rightOver t e = not (Bool·beq (e .normal) (held (e .pair) t))
+
 unfoldable pub alternating : Tree → Bool
 alternating [] = true
-alternating (es ∷ t) = all (λ e. not (Bool·beq (e .normal) (held (e .pair) t))) es && alternating t
+alternating (es ∷ t) = all (rightOver t) es && alternating t
 
 -- live is the number of normal entries less that of filters.
 unfoldable pub countKind : Bool → Tree → ℕ
@@ -164,29 +166,3 @@ countKind normal t = length (passing (λ e. Bool·beq normal (e .normal)) (conca
 
 unfoldable pub liveRight : ℕ → Tree → Bool
 liveRight live t = eqb (live + countKind false t) (countKind true t)
-
--- What a test finds: nothing, or a fault, in level 0 for the directory or the head, else in the first faulty level from the top, in l for
--- kinds, alternation or live across levels.
-pub data Judged : Type 0 where
-  sound : Judged
-  faultAt : Fault → Judged
-
-abbrev pub inLevel : ℕ → Fault
-inLevel i = record { level = i }
-
--- Of n levels from level i on, the first that is faulty.
-unfoldable pub levelsFault : Geometry → List ℕ → ℕ → ℕ → Judged
-levelsFault g w i zero = sound
-levelsFault g w i (suc n) = elim (levelSound g w i) [ true ↦ levelsFault g w (suc i) n | false ↦ faultAt (inLevel i) ]
-
--- Kinds, alternation and live across levels.
-unfoldable pub acrossFault : Geometry → List ℕ → Judged
-acrossFault g w = elim (alternating (treeOf g w) && liveRight (getD w liveWord 0) (treeOf g w)) [ true ↦ sound | false ↦ faultAt (inLevel (g .levels)) ]
-
--- Where the first finds nothing, the second is looked for.
-unfoldable pub else : Judged → Judged → Judged
-else sound later = later
-else (faultAt f) later = faultAt f
-
-unfoldable pub fault : Geometry → List ℕ → Judged
-fault g w = elim (directoryRight g w && headSound g w) [ true ↦ else (levelsFault g w 1 (bottom g)) (acrossFault g w) | false ↦ faultAt (inLevel 0) ]

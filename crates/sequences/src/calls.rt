@@ -66,7 +66,7 @@ fn put_call(s: Sequence, state: State, store: &mut [u32], work: &mut [u32], shor
     let reply = edit_reply(index::put(store, &mut work[0..lent], pair));
     let values = reply.values;
     let before = state.replies;
-    let replies = add_reply(before, reply.number, &values);
+    let replies = add_reply(before, reply.number, &values, &values);
     if reply.number != FULL {
         return noted(state, drawn.x, replies);
     }
@@ -89,7 +89,7 @@ fn drop_call(s: Sequence, state: State, store: &mut [u32], work: &mut [u32]) -> 
     State {
         x: drawn.x,
         filling: state.filling || is_low(s.most, reply),
-        replies: add_reply(before, reply.number, &values),
+        replies: add_reply(before, reply.number, &values, &values),
     }
 }
 
@@ -107,21 +107,27 @@ fn ask_call(s: Sequence, state: State, store: &[u32]) -> State
     let before = state.replies;
     let reply = ask_reply(index::ask(store, pair));
     let values = reply.values;
-    let asked = add_reply(before, reply.number, &values);
+    let answer = [values[0], values[1]];
+    let asked = add_reply(before, reply.number, &answer, &values);
     noted(state, drawn.x, add_why(asked, store, pair))
 }
 
 fn add_why(replies: Digest, store: &[u32], pair: Pair) -> Digest {
     let mut trail = [0u32; 22];
     let reply = ask_reply(index::why(store, pair, &mut trail));
-    add_reply(replies, reply.number, &trail)
+    add_reply(replies, reply.number, &trail, &trail)
 }
 
 fn check_call(state: State, store: &[u32]) -> State {
     let before = state.replies;
     let reply = check_reply(index::check(store));
     let values = reply.values;
-    noted(state, state.x, add_reply(before, reply.number, &values))
+    let answer = [values[0]];
+    noted(
+        state,
+        state.x,
+        add_reply(before, reply.number, &answer, &values),
+    )
 }
 
 // Lists from one pair to another into fewer than 50 words.
@@ -149,17 +155,20 @@ fn add_list(
 ) -> Digest {
     let reply = list_reply(index::list(store, first, second, slice));
     let values = reply.values;
-    add_words(add_reply(replies, reply.number, &values), slice)
+    let answer = [values[0], values[1]];
+    add_words(add_reply(replies, reply.number, &answer, &values), slice)
 }
 
-// The digest of replies with a reply: its number and its values, of a refusal the first value alone.
-fn add_reply(replies: Digest, number: u32, values: &[u32]) -> Digest {
+// The digest of replies with a reply: its number, and then what an answer tells, or of a refusal the first three values.
+fn add_reply(replies: Digest, number: u32, answer: &[u32], values: &[u32]) -> Digest {
     let told = add_word(replies, number);
     if number == 0 {
-        return add_words(told, values);
+        return add_words(told, answer);
     }
-    if values.len() == 0 {
+    if values.len() < 3 {
         return told;
     }
-    add_word(told, values[0])
+    let level = add_word(told, values[0]);
+    let page = add_word(level, values[1]);
+    add_word(page, values[2])
 }

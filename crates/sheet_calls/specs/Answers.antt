@@ -10,7 +10,10 @@ use borrow.Author.Tests.{ne-eqb}
 use Rattle.geometry.specs.Directory.{geometryOf}
 use Rattle.rules.specs.Merging.{entries}
 use Rattle.rules.specs.Sound.{treeOf}
-use Rattle.opening.specs.Reply.{Reply, replied}
+use Rattle.fault.specs.declared.Part.{Part}
+use Rattle.fault.specs.declared.Part.the-variants.{Directory, Head, Page, Writing, Kinds}
+use Rattle.fault.specs.Numbers.{numberOf}
+use Rattle.opening.specs.Reply.{Reply, replied, faultValues}
 use Rattle.call_ask.specs.declared.Asked.{Asked}
 use Rattle.call_ask.specs.declared.Asked.the-variants.{Answer, Range as RangeAsked, Length as LengthAsked, Fault as FaultAsked}
 use Rattle.call_ask.specs.Ask.{askReply}
@@ -24,15 +27,22 @@ use Rattle.sheet_calls.specs.Counts.{Left, refused, accepted}
 abbrev pub countsAfter : Reply → List ℕ → List ℕ → List ℕ
 countsAfter r told before = cond (eqb (r .number) 0) told before
 
--- The number of a put's or drop's reply is 6 at most, and an ask tells 0 or 1.
-pub number-small : (a : Edited) (counts : List ℕ) → (editedReply a counts) .number ≤ 6
+-- The number of a put's or drop's reply is 14 at most, and an ask tells 0 or 1.
+pub number-small : (a : Edited) (counts : List ℕ) → (editedReply a counts) .number ≤ 14
 number-small (Done live deepest pages) counts = omega arith
 number-small Range counts = omega arith
 number-small Held counts = omega arith
 number-small Missing counts = omega arith
 number-small Full counts = omega arith
 number-small Length counts = omega arith
-number-small (Fault fault) counts = omega arith
+number-small (Fault fault) counts = by (fault .part)
+  where
+    by : (part : Part) → numberOf part ≤ 14
+    by Directory = omega arith
+    by Head = omega arith
+    by Page = omega arith
+    by Writing = omega arith
+    by Kinds = omega arith
 
 pub held-small : (a : Asked) → heldNumber (askReply a) ≤ 1
 unfolding heldNumber
@@ -40,7 +50,14 @@ held-small (Answer true level) = omega arith
 held-small (Answer false level) = omega arith
 held-small RangeAsked = omega arith
 held-small LengthAsked = omega arith
-held-small (FaultAsked fault) = omega arith
+held-small (FaultAsked fault) = by (fault .part)
+  where
+    by : (part : Part) → heldNumber (replied (numberOf part) (faultValues fault)) ≤ 1
+    by Directory = omega arith
+    by Head = omega arith
+    by Page = omega arith
+    by Writing = omega arith
+    by Kinds = omega arith
 
 -- What an ask tells, by its reply's number.
 module _ (reply : Reply) (number : ℕ) (values : List ℕ) (told : replied number values ≡ reply) where

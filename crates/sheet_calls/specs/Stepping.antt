@@ -31,7 +31,7 @@ onlyTold number progress = record { told = number; pages = progress .pages; entr
 -- What the progress is after a put or drop with this reply and these counts.
 pub record Changing (reply : Reply) (counts : List ℕ) (progress r : Progress) : Type 0 where
   pub told : r .told ≡ reply .number
-  pub small : r .told ≤ 6
+  pub small : r .told ≤ 14
   pub pages : r .pages ≡ progress .pages + pagesIn reply
   pub few : r .pages ≤ progress .pages + 4294967295
   pub counted : r .entries ≡ countsAfter reply counts (progress .entries)
@@ -54,7 +54,7 @@ module _ (reply : Reply) (counts : List ℕ) (progress r : Progress) (number : �
     counted = rw (its-number, z) refl;
   })
 
-  pub refuses : (number ≡ 0 → ⊥) → number ≤ 6 → r ≡ onlyTold number progress → Changing reply counts progress r
+  pub refuses : (number ≡ 0 → ⊥) → number ≤ 14 → r ≡ onlyTold number progress → Changing reply counts progress r
   unfolding pagesIn
   refuses z small t = rw t (record {
     told = sym its-number;
@@ -71,7 +71,7 @@ Counted progress store = progress .entries ≡ entries (treeOf (geometryOf store
 -- What the progress, the store and the work area are after the call that a request asks for.
 pub record Calling (m : Made) (store : List ℕ) (progress : Progress) (store′ work′ : List ℕ) (r : Progress) : Type 0 where
   pub told : r .told ≡ m .told
-  pub small : r .told ≤ 6
+  pub small : r .told ≤ 14
   pub pages : r .pages ≡ progress .pages + m .pages
   pub few : r .pages ≤ progress .pages + 4294967295
   pub store-left : store′ ≡ m .store

@@ -18,10 +18,10 @@ pub fn fault_line(out: &mut [u8], number: u32) -> usize
 
 // Prints the line of a call from a place on, with the number that the call told, and gives the place after it.
 pub fn call_line(out: &mut [u8], at: usize, operation: Operation, told: u64) -> usize
-    requires { ⌜ told < 10 ⌝ }
+    requires { ⌜ told < 100 ⌝ }
     requires { ⌜ at + 26 ≤ length (now out) ⌝ }
     ensures { λ r. ⌜ Printed (now (out .entry)) at (line (nameOf operation) told) (now (out .exit)) r ⌝ }
-    ensures { λ r. ⌜ r ≤ at + 7 ⌝ }
+    ensures { λ r. ⌜ r ≤ at + 8 ⌝ }
 {
     match operation {
         Operation::Put => print_line(out, at, b"put=", told),

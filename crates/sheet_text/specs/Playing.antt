@@ -73,7 +73,7 @@ module _ (input : List ℕ) (g : Geometry) (start : List ℕ) where
 
     pub play-goes-on : (r : Request) (next : ℕ) → Requested input at r next → (progress′ : Progress) (store′ work′ out′ : List ℕ) (end′ : ℕ) →
         Calling (made r store work) store progress store′ work′ progress′ → Printed out end (line (nameOf (r .operation)) (progress′ .told)) out′ end′ →
-        end′ ≤ end + 7 → Playing input g start next end′ progress′ store′ work′ out′
+        end′ ≤ end + 8 → Playing input g start next end′ progress′ store′ work′ out′
     unfolding textFrom
     play-goes-on r next q progress′ store′ work′ out′ end′ called p h = onward (requestsFrom (c .number + 3) (ahead input next)) refl
       where

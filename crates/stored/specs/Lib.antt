@@ -1,14 +1,13 @@
 -- Stores that are laid out in slots, in the order of reading: a store part by part (Parts), what reading it gives (Reading), and a level or the
 -- head of it laid out anew (Replacing); the slots of a tree (Slots), and
--- the tree read back from them (Back); a level over the pages below as they stand (Over); the whole-store test part by part (Passed), what
--- it tells of a store that passes (Fitting, Told), and that the writing of a good state passes (Passes); the two together (Sound).
+-- the tree read back from them (Back); a level over the pages below as they stand (Over); what the whole-store test tells of a store
+-- that has no fault (Fitting, Told), and that the writing of a good state has none (Passes); the two together (Sound).
 pub mod Parts
 pub mod Reading
 pub mod Replacing
 pub mod Slots
 pub mod Back
 pub mod Over
-pub mod Passed
 pub mod Fitting
 pub mod Told
 pub mod Passes

@@ -5,32 +5,21 @@ use native.Mathlib.Nat.{zero-add, suc-add}
 use native.Mathlib.Omega.{arith}
 use mathlib.Core.Path.{_≡_, refl, sym, ap, _∙_}
 use mathlib.Core.List.{List, [], _++_, append-assoc}
-use lib.ListN.{length, getD, take, drop, replicate, length-append, length-replicate, take-append-drop}
+use lib.ListN.{length, getD, take, drop, length-append, take-append-drop}
 use lib.Seq.{take-at, drop-drop}
 use borrow.Author.Tests.{lt-ltb, le-ltb}
 use Rattle.laws.specs.Lists.{span, concat}
 use Rattle.laws.specs.Joined.{joined-length, joined-part, parts-joined}
 use Rattle.geometry.specs.declared.Geometry.{Geometry}
 use Rattle.geometry.specs.Geometry.{InRange, bottom, room}
-use Rattle.geometry.specs.Places.{erased, headStart, headRoom, levelStart, storeWords, directoryWords, wordsInPage, wordsInSlot}
+use Rattle.geometry.specs.Places.{headStart, headRoom, levelStart, storeWords, directoryWords, wordsInPage, wordsInSlot}
 use Rattle.geometry.specs.Bounds.{room-none}
 use Rattle.geometry.specs.Apart.{level-one, level-after}
 use Rattle.slot.specs.declared.Slot.{Slot}
 use Rattle.rules.specs.Level.{pagesFor}
 use Rattle.rules.specs.Store.{runWords, levelWords, pageCount, directory, laidOut}
-use Rattle.layout.specs.Run.{wordsOfAll, words-length}
-use Rattle.layout.specs.Pages.{levelPage, level-pages, level-page-length}
-
--- The words of a run of slots fill its room, where the slots do not pass it, and those of a level its room.
-pub run-words : (slots : List Slot) (n : ℕ) → length slots ≤ n → length (runWords slots n) ≡ 3 * n
-unfolding runWords
-run-words slots n h =
-    length-append (wordsOfAll slots) (replicate (3 * (n - length slots)) erased) ∙
-    omega (arith, words-length slots, length-replicate (3 * (n - length slots)) erased)
-
-pub level-words : (slots : List Slot) (n : ℕ) → length (levelWords slots n) ≡ 64 * n
-level-words slots n =
-    rw (level-pages slots n) (rw (zero-add n, zero-add) at (joined-length (levelPage slots) (λ p. 64 * p) (λ p. omega (arith, level-page-length slots p)) 0 n))
+use Rattle.layout.specs.Run.{run-words}
+use Rattle.layout.specs.Pages.{level-words}
 
 -- The page count of a level, and of one that does not exist.
 pub page-count : (g : Geometry) (ss : List (List Slot)) (i : ℕ) → i < g .levels → pageCount g ss i ≡ pagesFor (length (getD ss i []))

@@ -18,6 +18,7 @@ use Rattle.rules.specs.Level.{pagesFor, fences, weave, slotsOf}
 use Rattle.rules.specs.Merging.{State}
 use Rattle.rules.specs.Store.{runWords, levelWords, directory}
 use Rattle.rules.specs.Sound.{headSlots, levelSlots, entriesOf, firstAt, treeOf, directoryRight, headRight, pageFormed, ascending, levelLaid, levelSound, headSound}
+use Rattle.rules.specs.Faultless.{Faultless}
 use Rattle.geometry.specs.Directory.{pagesOf}
 use Rattle.rules.specs.Good.{Good, Fits}
 use Rattle.rules.specs.Reading.{Reads}
@@ -27,7 +28,6 @@ use Rattle.stored.specs.Reading.{parts-read}
 use Rattle.stored.specs.Slots.{slots-level}
 use Rattle.stored.specs.Back.{tree-read}
 use Rattle.stored.specs.Over.{laid-bare, woven-over, laid-over}
-use Rattle.stored.specs.Passed.{Passed}
 
 -- A test that passes of each of a span passes of all.
 all-span : (t : ℕ → Bool) (i n : ℕ) → ((j : ℕ) → i ≤ j → j < i + n → t j ≡ true) → all t (span (λ j. j) i n) ≡ true
@@ -98,10 +98,12 @@ module _ (g : Geometry) (s : State) (w : List ℕ) (fit : InRange g) (good : Goo
         equal-refl (runWords (written 0) (headRoom g)),
       ) refl
 
-  pub passes : Passed g w
+  pub passes : Faultless g w
   passes = record {
     directory = right;
-    head = head-passes;
+    head = head-right;
+    pages = formed;
+    head-sound = head-passes;
     levels = level-passes;
     alternates = rw tree-again (good .alternates);
     counted = rw (tree-again, read .live-pairs) (good .counted);

@@ -19,7 +19,9 @@ use Rattle.slot.specs.declared.Slot.{Slot}
 use Rattle.rules.specs.Level.{pagesFor}
 use Rattle.rules.specs.Store.{runWords, levelWords, pageCount, directory, laidOut}
 use Rattle.rules.specs.Good.{SlotsFit, Fits}
-use Rattle.stored.specs.Parts.{Parts, run-words, level-words, laid-parts, parts-laid, page-count}
+use Rattle.layout.specs.Run.{run-words}
+use Rattle.layout.specs.Pages.{level-words}
+use Rattle.stored.specs.Parts.{Parts, laid-parts, parts-laid, page-count}
 
 -- Another number of live pairs.
 pub live-replaced : (g : Geometry) (live : ℕ) (ss : List (List Slot)) (n : ℕ) → set (laidOut g live ss) liveWord n ≡ laidOut g n ss

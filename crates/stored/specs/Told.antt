@@ -1,4 +1,4 @@
--- What a store is that passes every part of the whole-store test: laid out in the slots of the tree that its words hold, which is good.
+-- What a store without a fault is: laid out in the slots of the tree that its words hold, which is good.
 -- Assumes nothing.
 use Prim.Native.Nat.{ℕ, zero, suc, _+_, _-_, _*_, _≤_, _<_}
 use native.Mathlib.Nat.{zero-add}
@@ -22,6 +22,7 @@ use Rattle.rules.specs.Tree.{Tree, level}
 use Rattle.rules.specs.Level.{index, pagesFor, fences, weave, slotsOf}
 use Rattle.rules.specs.Store.{runWords, levelWords, pageCount, directory}
 use Rattle.rules.specs.Sound.{headSlots, levelSlots, entriesOf, firstAt, treeOf, pagesRight, inOrder, headRight, pageFormed, ascending, levelLaid, withinCapacity, levelSound, headSound}
+use Rattle.rules.specs.Faultless.{Faultless}
 use Rattle.geometry.specs.Directory.{geometryOf, pagesOf, pages-of}
 use Rattle.rules.specs.Good.{Good}
 use Rattle.rules.specs.Laid.{slots-head, slots-upper, slots-bottom}
@@ -32,7 +33,6 @@ use Rattle.entries.specs.Ready.{tree-ascends}
 use Rattle.stored.specs.Parts.{Parts, page-count, no-page-count}
 use Rattle.stored.specs.Back.{stateOf, tree-length, tree-head, tree-level}
 use Rattle.stored.specs.Over.{laid-bare, woven-over, laid-over}
-use Rattle.stored.specs.Passed.{Passed}
 use Rattle.stored.specs.Fitting.{WordsFit, tree-fits}
 
 -- The first words of a list, written out.
@@ -42,7 +42,7 @@ words-out w n h =
     ext-getD 0 (take n w) (span (λ j. getD w j 0) 0 n) (e ∙ sym (length-span (λ j. getD w j 0) 0 n))
     (λ i b. getD-take n w i 0 (omega arith) ∙ sym (getD-span (λ j. getD w j 0) 0 n i 0 (omega arith) ∙ ap (λ (k : ℕ). getD w k 0) (zero-add i)))
 
-module _ (g : Geometry) (w : List ℕ) (fit : InRange g) (whole : length w ≡ storeWords g) (passed : Passed g w) where
+module _ (g : Geometry) (w : List ℕ) (fit : InRange g) (whole : length w ≡ storeWords g) (passed : Faultless g w) where
   abbrev tree : Tree
   tree = treeOf g w
 
@@ -103,7 +103,7 @@ module _ (g : Geometry) (w : List ℕ) (fit : InRange g) (whole : length w ≡ s
   head-told : HeadTold
   unfolding headSound ownHead
   head-told =
-      let all = and-three (headRight g w) _ _ (passed .head) in
+      let all = and-three (headRight g w) _ _ (passed .head-sound) in
       record { right = all .0; counted = eqb-true _ _ (all .1); stands = equal-true _ _ (all .2) }
 
   own-head : ownHead ≡ slots 0

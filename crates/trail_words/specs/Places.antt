@@ -9,15 +9,22 @@ trailWords = 22
 abbrev pub trailLevels : ℕ
 trailLevels = 4
 
--- Held and the deciding level; of a refusal the first word is the fault's level.
+-- Held and the deciding level.
 abbrev pub heldIn : List ℕ → ℕ
 heldIn trail = getD trail 0 0
 
 abbrev pub decidedIn : List ℕ → ℕ
 decidedIn trail = getD trail 1 0
 
-abbrev pub faultIn : List ℕ → ℕ
-faultIn trail = getD trail 0 0
+-- The place of a fault, of which a refusal tells in the first words: its level, page and slot.
+abbrev pub faultLevelIn : List ℕ → ℕ
+faultLevelIn trail = getD trail 0 0
+
+abbrev pub faultPageIn : List ℕ → ℕ
+faultPageIn trail = getD trail 1 0
+
+abbrev pub faultSlotIn : List ℕ → ℕ
+faultSlotIn trail = getD trail 2 0
 
 -- The words of a line, and where the line of level i begins.
 abbrev pub wordsInLine : ℕ

@@ -1,11 +1,16 @@
 // The words of a trail, which tells why a pair is held or not: the values of ask's reply, then a line of words for each of the levels 0 to 3.
 
-// Held, 1 or 0, and the deciding level; of a refusal the first word is the fault's level.
+// Held, 1 or 0, and the deciding level.
 pub const HELD: usize = 0;
 
 pub const DECIDED: usize = 1;
 
+// The place of a fault, of which a refusal tells in the first words: its level, page and slot.
 pub const FAULT_LEVEL: usize = 0;
+
+pub const FAULT_PAGE: usize = 1;
+
+pub const FAULT_SLOT: usize = 2;
 
 // Where the line of level 0 begins, and the words of a line.
 pub const FIRST_LINE: usize = 2;

@@ -10,9 +10,9 @@ use Rattle.geometry.specs.declared.Geometry.{Geometry}
 use Rattle.geometry.specs.Geometry.{bottom}
 use Rattle.slot.specs.declared.Pair.{Pair}
 use Rattle.slot.specs.declared.Slot.{Slot}
-use Rattle.rules.specs.Sound.{inLevel}
-use Rattle.walk.specs.declared.Step.{Step}
-use Rattle.walk.specs.declared.Step.the-variants.{Decided, Follow, Nothing, Broken}
+use Rattle.walk.specs.Stepping.{Step}
+use Rattle.fault.specs.declared.Fault.{Fault as Fault-told}
+use Rattle.walk.specs.Stepping.{Decided, Follow, Nothing, Broken}
 use Rattle.walk.specs.declared.Walked.{Walked}
 use Rattle.walk.specs.declared.Walked.the-variants.{Found, Fault}
 use Rattle.walk.specs.Step.{headStep, pageStep}
@@ -42,9 +42,9 @@ module _ (g : Geometry) (w : List ℕ) (asked : Pair) (held : Bool) (level : ℕ
   found-nothing : (n i : ℕ) → FoundOn n i Nothing → (false ≡ held) × (g .levels ≡ level)
   found-nothing n i found = found-own false (g .levels) (sym (walk-nothing g w asked n i) ∙ found)
 
-  not-broken : (n i : ℕ) → FoundOn n i Broken → ⊥
-  not-broken n i found =
-      let e : _≡_ {A = Walked} (Fault (inLevel i)) (Found held level) = sym (walk-broken g w asked n i) ∙ found in
+  not-broken : (n i : ℕ) (f : Fault-told) → FoundOn n i (Broken f) → ⊥
+  not-broken n i f found =
+      let e : _≡_ {A = Walked} (Fault f) (Found held level) = sym (walk-broken g w asked n i f) ∙ found in
       let z : _≡_ {A = ℕ} 0 1 = cc in omega arith
 
   -- Lines from level i on, of which the last is of the level found and decides.
@@ -66,20 +66,20 @@ module _ (g : Geometry) (w : List ℕ) (asked : Pair) (held : Bool) (level : ℕ
   ends-deciding h zero i line (Decided b) shown found = ends-here 0 i line b shown found
   ends-deciding h zero i line (Follow page) shown found = absurd (omega (arith, h, found-own false (g .levels) found .1))
   ends-deciding h zero i line Nothing shown found = absurd (omega (arith, h, found-nothing 0 i found .1))
-  ends-deciding h zero i line Broken shown found = absurd (not-broken 0 i found)
+  ends-deciding h zero i line (Broken f) shown found = absurd (not-broken 0 i f found)
   ends-deciding h (suc n) i line (Decided b) shown found = ends-here (suc n) i line b shown found
   ends-deciding h (suc n) i line (Follow page) shown found =
       let rest = ends-deciding h n (suc i) (pageLine g w asked (suc i) (page .0)) (pageStep g w asked (suc i) (page .0)) (page-shows g w asked i (page .0)) found in
       record { earlier = suc (rest .earlier); level-is = omega (arith, rest .level-is); many = ap suc (rest .many); decides = rest .decides }
   ends-deciding h (suc n) i line Nothing shown found = absurd (omega (arith, h, found-nothing (suc n) i found .1))
-  ends-deciding h (suc n) i line Broken shown found = absurd (not-broken (suc n) i found)
+  ends-deciding h (suc n) i line (Broken f) shown found = absurd (not-broken (suc n) i f found)
 
   -- A level above the one found told no answer, so its slots have no entry of the pair.
   undecided-here : (n i : ℕ) (run : List Slot) (reach : ℕ) (s : Step) → Shows asked run reach s → FoundOn n i s → i < level → noEntryOf asked run ≡ true
   undecided-here n i run reach (Decided b) shown found h = absurd (omega (arith, h, found-here n i b found .1))
   undecided-here n i run reach (Follow page) shown found h = shown
   undecided-here n i run reach Nothing shown found h = shown
-  undecided-here n i run reach Broken shown found h = absurd (not-broken n i found)
+  undecided-here n i run reach (Broken f) shown found h = absurd (not-broken n i f found)
 
   undecided-below : (n i k : ℕ) (s : Step) → FoundOn n i s → k < length (linesOn g w asked n i s) → suc i + k < level →
       noEntryOf asked (runOf g w (suc i + k) ((getD (linesOn g w asked n i s) k (headLine g w asked)) .page)) ≡ true
@@ -93,7 +93,7 @@ module _ (g : Geometry) (w : List ℕ) (asked : Pair) (held : Bool) (level : ℕ
       let next : suc i + suc k ≡ suc (suc i) + k = omega arith in
       rw next (undecided-below n (suc i) k (pageStep g w asked (suc i) (page .0)) found (omega (arith, b)) (omega (arith, h)))
   undecided-below (suc n) i k Nothing found b h = absurd (omega arith)
-  undecided-below (suc n) i k Broken found b h = absurd (omega arith)
+  undecided-below (suc n) i k (Broken f) found b h = absurd (omega arith)
 
   -- Where no level decides, the pair is not held.
   none-held : (n i : ℕ) (s : Step) → i + n < g .levels → g .levels ≤ level → FoundOn n i s → held ≡ false
@@ -101,11 +101,11 @@ module _ (g : Geometry) (w : List ℕ) (asked : Pair) (held : Bool) (level : ℕ
   none-held zero i (Decided b) k h found = absurd (omega (arith, k, h, found-here 0 i b found .1))
   none-held zero i (Follow page) k h found = sym (found-own false (g .levels) found .0)
   none-held zero i Nothing k h found = sym (found-nothing 0 i found .0)
-  none-held zero i Broken k h found = absurd (not-broken 0 i found)
+  none-held zero i (Broken f) k h found = absurd (not-broken 0 i f found)
   none-held (suc n) i (Decided b) k h found = absurd (omega (arith, k, h, found-here (suc n) i b found .1))
   none-held (suc n) i (Follow page) k h found = none-held n (suc i) (pageStep g w asked (suc i) (page .0)) (omega (arith, k)) h found
   none-held (suc n) i Nothing k h found = sym (found-nothing (suc n) i found .0)
-  none-held (suc n) i Broken k h found = absurd (not-broken (suc n) i found)
+  none-held (suc n) i (Broken f) k h found = absurd (not-broken (suc n) i f found)
 
   module _ (found : walked g w asked ≡ Found held level) where
     -- The lines of the walk are its trail.

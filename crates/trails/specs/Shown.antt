@@ -17,9 +17,10 @@ use Rattle.slot.specs.declared.Slot.{Slot}
 use Rattle.slot.specs.Pair.{before}
 use Rattle.rules.specs.Finding.{Told, decided, follow, nothing, tell}
 use Rattle.rules.specs.Sound.{headSlots, pageSlots, entriesOf, inOrder, legal, fencePages, firstIsLeast, headRight, countRight, pageFormed, pageRight}
+use Rattle.rules.specs.Faults.{headFault, walkFault}
 use Rattle.form.specs.Passes.{headScanned, pageScanned}
-use Rattle.walk.specs.declared.Step.{Step}
-use Rattle.walk.specs.declared.Step.the-variants.{Decided, Follow, Nothing, Broken}
+use Rattle.walk.specs.Stepping.{Step}
+use Rattle.walk.specs.Stepping.{Decided, Follow, Nothing, Broken}
 use Rattle.walk.specs.Step.{stepOf, headStep, pageStep}
 use Rattle.walk.specs.Trail.{Line, headLine, pageLine}
 use Rattle.trails.specs.Entry.{noEntryOf, ReachesEntry, undecided-none, decided-reaches}
@@ -34,7 +35,7 @@ abbrev pub Shows : Pair → List Slot → ℕ → Step → Type 0
 Shows asked run reach (Decided held) = ReachesEntry asked run reach held
 Shows asked run reach (Follow page) = noEntryOf asked run ≡ true
 Shows asked run reach Nothing = noEntryOf asked run ≡ true
-Shows asked run reach Broken = Unit {0}
+Shows asked run reach (Broken f) = Unit {0}
 
 abbrev pub LineShows : Geometry → List ℕ → Pair → ℕ → Line → Type 0
 LineShows g w asked i line = Shows asked (runOf g w i (line .page)) (line .reach) (line .step)
@@ -73,7 +74,7 @@ module _ (g : Geometry) (w : List ℕ) (asked : Pair) where
   head-shows = by (headRight g w) refl
     where
       by : (x : Bool) → headRight g w ≡ x →
-          Shows asked (headSlots g w) (length (passing (λ s. not (before asked (s .pair))) (headSlots g w))) (cond x (stepOf (tell asked (headSlots g w))) Broken)
+          Shows asked (headSlots g w) (length (passing (λ s. not (before asked (s .pair))) (headSlots g w))) (cond x (stepOf (tell asked (headSlots g w))) (Broken (headFault g w)))
       by true e = run-shows asked (headSlots g w) (head-order e)
       by false e = tt
 
@@ -85,6 +86,6 @@ module _ (g : Geometry) (w : List ℕ) (asked : Pair) where
       run = pageSlots g w (suc i) p
 
       by : (x : Bool) → pageRight g w asked (suc i) p ≡ x →
-          Shows asked run (length (passing (λ s. not (before asked (s .pair))) run)) (cond x (stepOf (tell asked run)) Broken)
+          Shows asked run (length (passing (λ s. not (before asked (s .pair))) run)) (cond x (stepOf (tell asked run)) (Broken (walkFault g w (suc i) p)))
       by true e = run-shows asked run (page-order (suc i) p e)
       by false e = tt

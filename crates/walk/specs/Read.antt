@@ -23,7 +23,12 @@ use Rattle.page.specs.Told.{length-run}
 use Rattle.rules.specs.Level.{fenceKind}
 use Rattle.rules.specs.Sound.{slotsFrom, headSlots, countAt, pageSlots, entriesOf, inOrder, legal, fencePages, firstIsLeast, headRight, countRight, pageFormed, firstRight, pageRight}
 use Rattle.geometry.specs.Directory.{pagesOf, pages-none}
-use Rattle.walk.specs.declared.Step.the-variants.{Broken}
+use Rattle.fault.specs.declared.Part.the-variants.{Head, Page, Writing}
+use Rattle.fault.specs.Numbers.{faultIn}
+use Rattle.rules.specs.Faults.{headFault, pageFault, walkFault}
+use Rattle.walk.specs.Stepping.{Broken}
+use Rattle.form.specs.declared.HeadRead.{HeadRead}
+use Rattle.form.specs.declared.PageRead.{PageRead}
 use Rattle.form.specs.Passes.{fenceUpTo, leastFence, pageScanned, headScanned, first-slots, headCount, head-reach, page-reach}
 use Rattle.walk.specs.Step.{headStep, pageStep, StepWithin, aboveStep, bottomStep, above-tells, above-within, bottom-tells}
 
@@ -59,9 +64,10 @@ module _ (g : Geometry) (w : List ℕ) (asked : Pair) where
   abbrev headRun : List Slot
   headRun = slotsFrom w headStart (headCount g w)
 
-  pub head-broken : headRight g w ≡ false → Broken ≡ headStep g w asked
-  unfolding headStep
-  head-broken e = rw e
+  pub head-broken : {head : HeadRead} → head ≡ headScanned g w asked → headRight g w ≡ false →
+      Broken (faultIn Head 0 0 (head .slot)) ≡ headStep g w asked
+  unfolding headStep headFault headScanned
+  head-broken told e = rw (told, e)
 
   module _ (right : headRight g w ≡ true) where
     pub head-tests : (leb (getD w headCountWord 0) (headRoom g) ≡ true) × (ltb (length (entriesOf headRun)) (g .head) ≡ true) × (inOrder headRun ≡ true) ×
@@ -118,9 +124,10 @@ module _ (g : Geometry) (w : List ℕ) (asked : Pair) (i p : ℕ) where
   unfolding pageSlots
   page-run = rw (first-slot g i p)
 
-  pub page-broken : pageFormed g w i p ≡ false → Broken ≡ pageStep g w asked i p
-  unfolding pageStep pageRight
-  page-broken e = rw e
+  pub page-broken : {page : PageRead} → page ≡ pageScanned g w asked i p → pageFormed g w i p ≡ false →
+      Broken (faultIn Page i p (page .slot)) ≡ pageStep g w asked i p
+  unfolding pageStep pageRight walkFault pageFault pageScanned
+  page-broken told e = rw (told, e)
 
   module _ (formed : pageFormed g w i p ≡ true) where
     page-tests : (countRight g w i p ≡ true) × (inOrder pageRun ≡ true) × (all (legal true (pagesOf g w (suc i))) pageRun ≡ true)
@@ -155,8 +162,8 @@ module _ (g : Geometry) (w : List ℕ) (asked : Pair) (i p : ℕ) where
       count-some : 1 ≤ pageCount
       count-some = counted g w i p above (page-tests .0)
 
-      pub page-first-broken : fenceUpTo asked (slotAt w place) ≡ false → Broken ≡ pageStep g w asked i p
-      unfolding pageStep pageRight
+      pub page-first-broken : fenceUpTo asked (slotAt w place) ≡ false → Broken (faultIn Writing i p 0) ≡ pageStep g w asked i p
+      unfolding pageStep pageRight walkFault
       page-first-broken e = rw (formed, apart, page-run, first-of-page count-some, e)
 
       module _ (first : fenceUpTo asked (slotAt w place) ≡ true) where

@@ -23,8 +23,9 @@ use Rattle.page.specs.Told.{length-run, tells-nothing, tells-entry, tells-fence
 use Rattle.rules.specs.Level.{fenceKind}
 use Rattle.rules.specs.Finding.{Told, decided, follow, nothing, tell}
 use Rattle.rules.specs.Sound.{slotsFrom, inOrder, legal, headSlots, pageSlots, headRight, pageRight}
-use Rattle.walk.specs.declared.Step.{Step}
-use Rattle.walk.specs.declared.Step.the-variants.{Decided, Follow, Nothing, Broken}
+use Rattle.rules.specs.Faults.{headFault, walkFault}
+use Rattle.walk.specs.Stepping.{Step}
+use Rattle.walk.specs.Stepping.{Decided, Follow, Nothing, Broken}
 
 abbrev pub stepOf : Told → Step
 stepOf (decided held) = Decided held
@@ -32,17 +33,17 @@ stepOf (follow page) = Follow (record { 0 = page })
 stepOf nothing = Nothing
 
 unfoldable pub headStep : Geometry → List ℕ → Pair → Step
-headStep g w asked = cond (headRight g w) (stepOf (tell asked (headSlots g w))) Broken
+headStep g w asked = cond (headRight g w) (stepOf (tell asked (headSlots g w))) (Broken (headFault g w))
 
 unfoldable pub pageStep : Geometry → List ℕ → Pair → ℕ → ℕ → Step
-pageStep g w asked i p = cond (pageRight g w asked i p) (stepOf (tell asked (pageSlots g w i p))) Broken
+pageStep g w asked i p = cond (pageRight g w asked i p) (stepOf (tell asked (pageSlots g w i p))) (Broken (walkFault g w i p))
 
 -- A page to follow is one of n.
 abbrev pub StepWithin : ℕ → Step → Type 0
 StepWithin n (Decided held) = Unit {0}
 StepWithin n (Follow page) = page .0 < n
 StepWithin n Nothing = Unit {0}
-StepWithin n Broken = Unit {0}
+StepWithin n (Broken f) = Unit {0}
 
 -- What the slot that a pass reached tells, above the bottom and in it.
 abbrev pub metAbove : Met → Pid → Step

@@ -9,10 +9,11 @@ use Rattle.geometry.specs.declared.Geometry.{Geometry}
 use Rattle.geometry.specs.Geometry.{bottom}
 use Rattle.slot.specs.declared.Pair.{Pair}
 use Rattle.slot.specs.declared.Pid.{Pid}
+use Rattle.fault.specs.declared.Fault.{Fault}
 use Rattle.rules.specs.Sound.{directoryRight}
 use Rattle.form.specs.Passes.{headScanned, pageScanned}
-use Rattle.walk.specs.declared.Step.{Step}
-use Rattle.walk.specs.declared.Step.the-variants.{Decided, Follow, Nothing, Broken}
+use Rattle.walk.specs.Stepping.{Step}
+use Rattle.walk.specs.Stepping.{Decided, Follow, Nothing, Broken}
 use Rattle.walk.specs.Step.{headStep, pageStep}
 
 -- The page read, the head's is 0; how many of its slots are at most the pair, of which the last is where the walk stopped; and what it told.
@@ -34,7 +35,7 @@ linesOn g w asked (suc n) i (Decided held) = []
 linesOn g w asked (suc n) i (Follow page) =
     pageLine g w asked (suc i) (page .0) ∷ linesOn g w asked n (suc i) (pageStep g w asked (suc i) (page .0))
 linesOn g w asked (suc n) i Nothing = []
-linesOn g w asked (suc n) i Broken = []
+linesOn g w asked (suc n) i (Broken f) = []
 
 unfoldable pub trail : Geometry → List ℕ → Pair → List Line
 trail g w asked = headLine g w asked ∷ linesOn g w asked (bottom g) 0 (headStep g w asked)
@@ -59,10 +60,10 @@ module _ (g : Geometry) (w : List ℕ) (asked : Pair) where
   lines-nothing zero i = refl
   lines-nothing (suc n) i = refl
 
-  pub lines-broken : (n i : ℕ) → linesOn g w asked n i Broken ≡ []
+  pub lines-broken : (n i : ℕ) (f : Fault) → linesOn g w asked n i (Broken f) ≡ []
   unfolding linesOn
-  lines-broken zero i = refl
-  lines-broken (suc n) i = refl
+  lines-broken zero i f = refl
+  lines-broken (suc n) i f = refl
 
   pub lines-into : (i page : ℕ) → 1 ≤ i → i < g .levels →
       linesFrom g w asked i page ≡ pageLine g w asked i page ∷ linesOn g w asked (g .levels - (i + 1)) i (pageStep g w asked i page)
@@ -91,7 +92,7 @@ module _ (g : Geometry) (w : List ℕ) (asked : Pair) where
   lines-few (suc n) i (Decided held) = omega arith
   lines-few (suc n) i (Follow page) = omega (arith, lines-few n (suc i) (pageStep g w asked (suc i) (page .0)))
   lines-few (suc n) i Nothing = omega arith
-  lines-few (suc n) i Broken = omega arith
+  lines-few (suc n) i (Broken f) = omega arith
 
   pub trail-few : length (trail g w asked) ≤ suc (bottom g)
   unfolding trail

@@ -8,9 +8,13 @@ use Rattle.geometry.specs.declared.Geometry.{Geometry}
 use Rattle.geometry.specs.Geometry.{bottom}
 use Rattle.slot.specs.declared.Pair.{Pair}
 use Rattle.slot.specs.declared.Pid.{Pid}
-use Rattle.rules.specs.Sound.{directoryRight, headRight, inLevel}
-use Rattle.walk.specs.declared.Step.{Step}
-use Rattle.walk.specs.declared.Step.the-variants.{Decided, Follow, Nothing, Broken}
+use Rattle.rules.specs.Sound.{directoryRight, headRight}
+use Rattle.rules.specs.Faults.{headFault}
+use Rattle.fault.specs.declared.Fault.{Fault as Fault-told}
+use Rattle.fault.specs.declared.Part.the-variants.{Directory}
+use Rattle.fault.specs.Numbers.{noPlace}
+use Rattle.walk.specs.Stepping.{Step}
+use Rattle.walk.specs.Stepping.{Decided, Follow, Nothing, Broken}
 use Rattle.walk.specs.declared.Walked.{Walked}
 use Rattle.walk.specs.declared.Walked.the-variants.{Found, Fault}
 use Rattle.walk.specs.Step.{headStep, pageStep}
@@ -20,15 +24,15 @@ unfoldable pub walkOn : Geometry → List ℕ → Pair → ℕ → ℕ → Step 
 walkOn g w asked zero i (Decided held) = Found held i
 walkOn g w asked zero i (Follow page) = Found false (g .levels)
 walkOn g w asked zero i Nothing = Found false (g .levels)
-walkOn g w asked zero i Broken = Fault (inLevel i)
+walkOn g w asked zero i (Broken f) = Fault f
 walkOn g w asked (suc n) i (Decided held) = Found held i
 walkOn g w asked (suc n) i (Follow page) = walkOn g w asked n (suc i) (pageStep g w asked (suc i) (page .0))
 walkOn g w asked (suc n) i Nothing = Found false (g .levels)
-walkOn g w asked (suc n) i Broken = Fault (inLevel i)
+walkOn g w asked (suc n) i (Broken f) = Fault f
 
--- The directory and the head are level 0.
+-- The directory is tested first.
 unfoldable pub walked : Geometry → List ℕ → Pair → Walked
-walked g w asked = cond (directoryRight g w) (walkOn g w asked (bottom g) 0 (headStep g w asked)) (Fault (inLevel 0))
+walked g w asked = cond (directoryRight g w) (walkOn g w asked (bottom g) 0 (headStep g w asked)) (Fault (noPlace Directory))
 
 -- The walk from a page of level i on.
 unfoldable pub walkFrom : Geometry → List ℕ → Pair → ℕ → ℕ → Walked
@@ -46,10 +50,10 @@ module _ (g : Geometry) (w : List ℕ) (asked : Pair) where
   walk-nothing zero i = refl
   walk-nothing (suc n) i = refl
 
-  pub walk-broken : (n i : ℕ) → walkOn g w asked n i Broken ≡ Fault (inLevel i)
+  pub walk-broken : (n i : ℕ) (f : Fault-told) → walkOn g w asked n i (Broken f) ≡ Fault f
   unfolding walkOn
-  walk-broken zero i = refl
-  walk-broken (suc n) i = refl
+  walk-broken zero i f = refl
+  walk-broken (suc n) i f = refl
 
   pub walk-into : (i page : ℕ) → 1 ≤ i → i < g .levels →
       walkFrom g w asked i page ≡ walkOn g w asked (g .levels - (i + 1)) i (pageStep g w asked i page)
@@ -73,8 +77,8 @@ module _ (g : Geometry) (w : List ℕ) (asked : Pair) where
 
 -- A walk that finds an answer has passed the tests of the directory and of the head.
 module _ (g : Geometry) (w : List ℕ) (asked : Pair) (held : Bool) (level : ℕ) (found : walked g w asked ≡ Found held level) where
-  not-faulty : (i : ℕ) → _≡_ {A = Walked} (Fault (inLevel i)) (Found held level) → ⊥
-  not-faulty i e = let z : _≡_ {A = ℕ} 0 1 = cc in omega arith
+  not-faulty : (f : Fault-told) → _≡_ {A = Walked} (Fault f) (Found held level) → ⊥
+  not-faulty f e = let z : _≡_ {A = ℕ} 0 1 = cc in omega arith
 
   pub found-directory : directoryRight g w ≡ true
   unfolding walked
@@ -82,7 +86,7 @@ module _ (g : Geometry) (w : List ℕ) (asked : Pair) (held : Bool) (level : ℕ
     where
       by-test : (b : Bool) → directoryRight g w ≡ b → b ≡ true
       by-test true e = refl
-      by-test false e = absurd (not-faulty 0 (rw e at found))
+      by-test false e = absurd (not-faulty (noPlace Directory) (rw e at found))
 
   pub found-head : headRight g w ≡ true
   unfolding walked headStep
@@ -90,4 +94,4 @@ module _ (g : Geometry) (w : List ℕ) (asked : Pair) (held : Bool) (level : ℕ
     where
       by-test : (b : Bool) → headRight g w ≡ b → b ≡ true
       by-test true e = refl
-      by-test false e = absurd (not-faulty 0 (sym (walk-broken g w asked (bottom g) 0) ∙ rw (found-directory, e) at found))
+      by-test false e = absurd (not-faulty (headFault g w) (sym (walk-broken g w asked (bottom g) 0 (headFault g w)) ∙ rw (found-directory, e) at found))

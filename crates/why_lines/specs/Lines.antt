@@ -4,10 +4,11 @@ use mathlib.Core.Bool.{cond}
 use mathlib.Core.List.{List, _++_}
 use lib.Dec.{ltb, eqb}
 use Rattle.slot.specs.declared.Pair.{Pair}
-use Rattle.trail_words.specs.Places.{trailLevels, heldIn, decidedIn, faultIn, entryIn, filterWord}
+use Rattle.trail_words.specs.Places.{trailLevels, heldIn, decidedIn, faultLevelIn, faultPageIn, faultSlotIn, entryIn, filterWord}
 use Rattle.printing.specs.Text.{bytesOf}
 use Rattle.printing.specs.Line.{named}
 use Rattle.why_levels.specs.Lines.{levelTexts}
+use Rattle.why_lines.specs.Fault.{faultText}
 
 -- The sentence: the pair, and what stands in a level.
 unfoldable pub pairText : List ℕ → Pair → List ℕ
@@ -49,13 +50,12 @@ rangeText = bytesOf "reply=1\nThe chip cannot be read: its first three words nam
 abbrev pub lengthText : List ℕ
 lengthText = bytesOf "reply=5\nThe chip cannot be read: its length is not the one that its geometry asks for.\n"
 
-unfoldable pub faultText : ℕ → ℕ → List ℕ
-faultText number level =
-    named (bytesOf "reply=") number ++ named (bytesOf " level=") level ++ standsText (bytesOf "\nThe store is damaged: the fault stands in level ") level
-
 unfoldable pub replyText : ℕ → List ℕ → Pair → List ℕ
 replyText number trail pair =
-    cond (eqb number 0) (answerText trail pair) (cond (eqb number 1) rangeText (cond (eqb number 5) lengthText (faultText number (faultIn trail))))
+    cond (eqb number 0) (answerText trail pair) (
+    cond (eqb number 1) rangeText (
+    cond (eqb number 5) lengthText (
+    faultText number (faultLevelIn trail) (faultPageIn trail) (faultSlotIn trail))))
 
 -- The lines of any reply fit into 512 bytes.
 abbrev pub textRoom : ℕ

@@ -3,7 +3,8 @@ ghost use Prim.Native.Nat.{_+_, _≤_};
 ghost use mathlib.Core.Path.{_≡_};
 ghost use lib.ListN.{length};
 ghost use Rattle.printing.specs.Printed.{Printed};
-ghost use Rattle.why_lines.specs.Lines.{textRoom, replyText, faultText, answerText, verdictText, sentenceText, refusalText, entryOf, pairText, standsText};
+ghost use Rattle.why_lines.specs.Fault.{faultText, faultLine, damageText, pageText, writingText, acrossText, placeless, kindText};
+ghost use Rattle.why_lines.specs.Lines.{textRoom, replyText, answerText, verdictText, sentenceText, refusalText, entryOf, pairText, standsText};
 use printing::print_bytes;
 use printing::print_named;
 use slot::Pair;
@@ -30,24 +31,106 @@ pub fn reply_lines(out: &mut [u8], number: u32, trail: &[u32; 22], pair: Pair) -
             0,
             b"reply=5\nThe chip cannot be read: its length is not the one that its geometry asks for.\n",
         ),
-        _ => fault_lines(out, number, trail[trail_words::FAULT_LEVEL]),
+        _ => fault_lines(
+            out,
+            number,
+            trail[trail_words::FAULT_LEVEL],
+            trail[trail_words::FAULT_PAGE],
+            trail[trail_words::FAULT_SLOT],
+        ),
     }
 }
 
-// The lines of a fault: its level, and a sentence.
-fn fault_lines(out: &mut [u8], number: u32, level: u32) -> usize
-    requires { ⌜ 94 ≤ length (now out) ⌝ }
-    ensures { λ r. ⌜ Printed (now (out .entry)) 0 (faultText number level) (now (out .exit)) r ⌝ }
-    ensures { λ r. ⌜ r ≤ 94 ⌝ }
+// The lines of a fault: the number of the reply with the place, and a sentence.
+fn fault_lines(out: &mut [u8], number: u32, level: u32, page: u32, slot: u32) -> usize
+    requires { ⌜ 182 ≤ length (now out) ⌝ }
+    ensures { λ r. ⌜ Printed (now (out .entry)) 0 (faultText number level page slot) (now (out .exit)) r ⌝ }
+    ensures { λ r. ⌜ r ≤ 182 ⌝ }
+{
+    let replied = fault_line(out, number, level, page, slot);
+    let begun = print_bytes(out, replied, b"\nThe store is damaged: ");
+    let told = damage_told(out, begun, number, level, page, slot);
+    print_bytes(out, told, b".\n")
+}
+
+// The number of the reply and the place of the fault.
+fn fault_line(out: &mut [u8], number: u32, level: u32, page: u32, slot: u32) -> usize
+    requires { ⌜ 65 ≤ length (now out) ⌝ }
+    ensures { λ r. ⌜ Printed (now (out .entry)) 0 (faultLine number level page slot) (now (out .exit)) r ⌝ }
+    ensures { λ r. ⌜ r ≤ 65 ⌝ }
 {
     let replied = print_named(out, 0, b"reply=", number);
-    let told = print_named(out, replied, b" level=", level);
-    stands_in(
-        out,
-        told,
-        b"\nThe store is damaged: the fault stands in level ",
-        level,
-    )
+    let levelled = print_named(out, replied, b" level=", level);
+    let paged = print_named(out, levelled, b" page=", page);
+    print_named(out, paged, b" slot=", slot)
+}
+
+// What is damaged, by the number of the reply.
+fn damage_told(out: &mut [u8], at: usize, number: u32, level: u32, page: u32, slot: u32) -> usize
+    requires { ⌜ at + 92 ≤ length (now out) ⌝ }
+    ensures { λ r. ⌜ Printed (now (out .entry)) at (damageText number level page slot) (now (out .exit)) r ⌝ }
+    ensures { λ r. ⌜ r ≤ at + 92 ⌝ }
+{
+    match number {
+        10 => print_bytes(out, at, b"its directory is wrong"),
+        11 => print_named(out, at, b"the head is wrong at slot ", slot),
+        12 => page_told(out, at, level, page, slot),
+        13 => writing_told(out, at, level, page, slot),
+        _ => across_told(out, at, level, page, slot),
+    }
+}
+
+// That the form of a page is wrong.
+fn page_told(out: &mut [u8], at: usize, level: u32, page: u32, slot: u32) -> usize
+    requires { ⌜ at + 63 ≤ length (now out) ⌝ }
+    ensures { λ r. ⌜ Printed (now (out .entry)) at (pageText level page slot) (now (out .exit)) r ⌝ }
+    ensures { λ r. ⌜ r ≤ at + 63 ⌝ }
+{
+    let paged = print_named(out, at, b"page ", page);
+    let levelled = print_named(out, paged, b" of level ", level);
+    print_named(out, levelled, b" is wrong at slot ", slot)
+}
+
+// That a level is not the writing of its entries.
+fn writing_told(out: &mut [u8], at: usize, level: u32, page: u32, slot: u32) -> usize
+    requires { ⌜ at + 79 ≤ length (now out) ⌝ }
+    ensures { λ r. ⌜ Printed (now (out .entry)) at (writingText level page slot) (now (out .exit)) r ⌝ }
+    ensures { λ r. ⌜ r ≤ at + 79 ⌝ }
+{
+    let levelled = print_named(out, at, b"level ", level);
+    let slotted = print_named(out, levelled, b" is not as it is written, at slot ", slot);
+    print_named(out, slotted, b" of page ", page)
+}
+
+// That the levels do not fit together: an entry, or the number of pairs, which has no place.
+fn across_told(out: &mut [u8], at: usize, level: u32, page: u32, slot: u32) -> usize
+    requires { ⌜ at + 92 ≤ length (now out) ⌝ }
+    ensures { λ r. ⌜ Printed (now (out .entry)) at (acrossText level page slot) (now (out .exit)) r ⌝ }
+    ensures { λ r. ⌜ r ≤ at + 92 ⌝ }
+{
+    if is_placeless(level, page, slot) {
+        return print_bytes(out, at, b"the number of pairs is wrong");
+    }
+    kind_told(out, at, level, page, slot)
+}
+
+// That an entry is of the wrong kind.
+fn kind_told(out: &mut [u8], at: usize, level: u32, page: u32, slot: u32) -> usize
+    requires { ⌜ at + 92 ≤ length (now out) ⌝ }
+    ensures { λ r. ⌜ Printed (now (out .entry)) at (kindText level page slot) (now (out .exit)) r ⌝ }
+    ensures { λ r. ⌜ r ≤ at + 92 ⌝ }
+{
+    let levelled = print_named(out, at, b"an entry in level ", level);
+    let paged = print_named(out, levelled, b", page ", page);
+    let slotted = print_named(out, paged, b", slot ", slot);
+    print_bytes(out, slotted, b" does not fit the levels below")
+}
+
+// Whether a place is all zeros.
+fn is_placeless(level: u32, page: u32, slot: u32) -> bool
+    ensures { λ r. ⌜ r ≡ placeless level page slot ⌝ }
+{
+    (level == 0) & (page == 0) & (slot == 0)
 }
 
 // The lines of an answer: those of the levels read, the verdict, and a sentence.

@@ -379,7 +379,7 @@ fn passed(kind: Kind, p: u32) -> u32
 }
 
 // Whether an entry is above the last of those before it, if there are any.
-fn rises(entries: u32, last: Pair, pair: Pair) -> bool
+pub fn rises(entries: u32, last: Pair, pair: Pair) -> bool
     ensures { λ b. ⌜ b ≡ Spec·rises entries last pair ⌝ }
 {
     either(entries == 0, comes_before(last, pair))
@@ -395,7 +395,7 @@ fn is_index(slot: Slot) -> bool
 }
 
 // Whether two slots are one.
-fn same_slot(a: Slot, b: Slot) -> bool
+pub fn same_slot(a: Slot, b: Slot) -> bool
     ensures { λ r. ⌜ r ≡ sameSlot a b ⌝ }
 {
     let here = a.pair;

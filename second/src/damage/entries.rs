@@ -11,6 +11,7 @@ pub type Spoil = fn(&mut Random, &mut Tree);
 /// Every kind of damage to entries.
 pub const KINDS: &[Named<Spoil>] = &[
     ("kind flipped", flip_kind),
+    ("two kinds flipped", flip_two_kinds),
     ("lower one removed", remove_lowest),
     ("same kind above", repeat_above),
     ("twice in a level", repeat_in_level),
@@ -27,6 +28,12 @@ fn flip_kind(random: &mut Random, tree: &mut Tree) {
         let entry = &mut tree.levels[level][at];
         entry.filter = !entry.filter;
     }
+}
+
+/// Flips the kinds of two entries, in one level or in two.
+fn flip_two_kinds(random: &mut Random, tree: &mut Tree) {
+    flip_kind(random, tree);
+    flip_kind(random, tree);
 }
 
 /// Removes the lowest entry of a pair, one with others above it if there is one.

@@ -1,7 +1,7 @@
 //! Damage to the slots of a layout, between the rules and the words.
 
 use super::Named;
-use crate::layout::{fences_to, first_pairs, lay_head, lay_level, Laid};
+use crate::layout::{fences_to, first_pairs, lay_head, lay_level, Laid, Page};
 use crate::random::Random;
 use crate::slot::{Kind, Pair, Slot};
 use crate::tree::Tree;
@@ -20,6 +20,8 @@ pub const KINDS: &[Named<Spoil>] = &[
     ("external fence left out", leave_out_external),
     ("external fence twice", repeat_external),
     ("first slot moved, written over above", move_first_slot),
+    ("entry not above the page before", fall_over_edge),
+    ("last fence of the head left out", leave_out_last_fence),
     ("two swapped", swap),
     ("one twice", repeat),
     ("one taken out", take_out),
@@ -98,6 +100,42 @@ fn move_first_slot(random: &mut Random, tree: &Tree, laid: &mut Laid) {
     if let Some(first) = laid.levels[level][page].first_mut() {
         first.pair = moved(random, first.pair);
     }
+    write_above(tree, laid, level);
+}
+
+/// Gives the first entry of a page, and the internal fence before it, a pair of the page before, and
+/// writes the levels above over it by the rules. Words are then all as written, but the entries fall.
+fn fall_over_edge(random: &mut Random, tree: &Tree, laid: &mut Laid) {
+    let edges = |pages: &[Page]| -> Vec<usize> {
+        let opens_with_entry = |page: &usize| pages[*page][0].kind != Kind::External;
+        (1..pages.len()).filter(opens_with_entry).collect()
+    };
+    let levels: Vec<usize> = (0..laid.levels.len())
+        .filter(|level| !edges(&laid.levels[*level]).is_empty())
+        .collect();
+    if levels.is_empty() {
+        return;
+    }
+    let level = *random.pick(&levels);
+    let pages = &mut laid.levels[level];
+    let page = *random.pick(&edges(pages));
+    let pair = random.pick(&pages[page - 1]).pair;
+    let internal = usize::from(pages[page][0].kind == Kind::Internal);
+    for slot in &mut pages[page][..=internal] {
+        slot.pair = pair;
+    }
+    write_above(tree, laid, level);
+}
+
+/// Leaves the last fence of the head out.
+fn leave_out_last_fence(_: &mut Random, _: &Tree, laid: &mut Laid) {
+    if let Some(last) = laid.head.iter().rposition(Slot::is_fence) {
+        laid.head.remove(last);
+    }
+}
+
+/// Writes the head and the levels above one of the layout's over its first slots, by the rules.
+fn write_above(tree: &Tree, laid: &mut Laid, level: usize) {
     for above in (0..level).rev() {
         let fences = fences_to(&first_pairs(&laid.levels[above + 1]), Variant::Right);
         laid.levels[above] = lay_level(&tree.levels[above + 1], &fences, Variant::Right);

@@ -140,14 +140,19 @@ fn unused_slot(random: &mut Random, geometry: Geometry, words: &mut [u32]) {
     }
 }
 
-/// Changes a word of an unused page, where a level has one.
+/// Changes a word of an unused page, often its slot count, where a level has one.
 fn unused_page(random: &mut Random, geometry: Geometry, words: &mut [u32]) {
     let level = 1 + random.below(geometry.bottom());
     let used = reading::page_count(words, level) as usize;
     let room = geometry.page_room(level);
     if used < room {
         let page = used + random.below(room - used);
-        let at = geometry.page_start(level, page) + random.below(PAGE_WORDS);
+        let word = if random.one_in(4) {
+            0
+        } else {
+            random.below(PAGE_WORDS)
+        };
+        let at = geometry.page_start(level, page) + word;
         words[at] = *random.pick(&[0, 1, 21, ONES - 1]);
     }
 }

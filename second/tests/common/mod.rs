@@ -4,12 +4,17 @@
 use std::path::{Path, PathBuf};
 
 use second::geometry::Geometry;
+use second::variant::Variant;
 use second::{sheet_vectors, vectors};
 
 /// The geometries that long sequences must cover.
 pub const GEOMETRIES: [&str; 7] = [
     "1,2,2", "1,2,4", "4,2,3", "21,2,2", "10,4,3", "16,4,3", "64,8,4",
 ];
+
+/// The builds that the vectors do not find, since no store of theirs has 256 pages in a level, and none
+/// is full when a held pair is put. Replays find both.
+pub const NOT_IN_VECTORS: [Variant; 2] = [Variant::PageByte, Variant::FullBeforeHeld];
 
 /// The geometry of this text.
 pub fn geometry(text: &str) -> Geometry {

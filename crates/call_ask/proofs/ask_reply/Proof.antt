@@ -1,4 +1,4 @@
--- `ask_reply` gives the number and the two values of what ask answered, case by case. Assumes nothing.
+-- `ask_reply` gives the number and the three values of what ask answered, case by case. Assumes nothing.
 use mathlib.Core.Path.{sym, ap}
 use Rattle.call_ask.specs.Ask.{askReply}
 use borrow.Author.Needs.{needs}
@@ -20,6 +20,9 @@ enum-told-2 c = search needs
 enum-known-asked-2 : tie.Need-enum-known-asked-2
 enum-known-asked-2 c = search needs
 
+number-of-requires : tie.Need-number-of-requires
+number-of-requires c κs = search needs
+
 returns : tie.Need-returns
 returns c = rw (c .before .before .asked .given .1, c .one-if .ensures .0)
 
@@ -30,7 +33,7 @@ returns-3 : tie.Need-returns-3
 returns-3 c = sym (ap askReply (c .enum-told2 .given .1))
 
 returns-4 : tie.Need-returns-4
-returns-4 c = sym (ap askReply (c .before .asked2 .given .1))
+returns-4 c = rw (c .before .before .asked2 .given .1, c .number-of .ensures)
 
 pub ask-reply-spec : {M : Type 1} → statement M
 ask-reply-spec =
@@ -41,6 +44,7 @@ ask-reply-spec =
     enum-told
     enum-told-2
     enum-known-asked-2
+    number-of-requires
     returns
     returns-2
     returns-3

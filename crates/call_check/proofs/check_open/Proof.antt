@@ -1,6 +1,5 @@
 -- `check_open` gives what the whole-store test finds. Assumes nothing.
 use mathlib.Core.Path.{sym, ap, _∙_}
-use Rattle.sound.specs.Levels.{wholeTold}
 use Rattle.opening.specs.Opening.{open-range, open-lent}
 use Rattle.call_check.specs.Check.{judgedReply}
 use borrow.Author.Needs.{needs}
@@ -24,10 +23,10 @@ enum-known-fault : tie.Need-enum-known-fault
 enum-known-fault c = search needs
 
 returns : tie.Need-returns
-returns c = ap judgedReply (sym (ap wholeTold (c .enum-told .given .1)) ∙ c .before .before .whole-fault .ensures)
+returns c = ap judgedReply (sym (c .enum-told .given .1) ∙ c .before .before .whole-fault .ensures)
 
 returns-2 : tie.Need-returns-2
-returns-2 c = ap judgedReply (sym (ap wholeTold (c .before .fault .given .1)) ∙ c .before .before .before .whole-fault .ensures)
+returns-2 c = ap judgedReply (sym (c .before .fault .given .1) ∙ c .before .before .before .whole-fault .ensures)
 
 pub check-open-spec : {M : Type 1} → statement M
 check-open-spec =

@@ -17,6 +17,9 @@ enum-told-3 c = search needs
 enum-known-checked : tie.Need-enum-known-checked
 enum-known-checked c = search needs
 
+number-of-requires : tie.Need-number-of-requires
+number-of-requires c κs = search needs
+
 returns : tie.Need-returns
 returns c = sym (ap checkReply (c .enum-told .given .1))
 
@@ -27,7 +30,7 @@ returns-3 : tie.Need-returns-3
 returns-3 c = sym (ap checkReply (c .enum-told3 .given .1))
 
 returns-4 : tie.Need-returns-4
-returns-4 c = sym (ap checkReply (c .before .checked .given .1))
+returns-4 c = rw (c .before .before .checked .given .1, c .number-of .ensures)
 
 pub check-reply-spec : {M : Type 1} → statement M
 check-reply-spec =
@@ -37,6 +40,7 @@ check-reply-spec =
     enum-told-2
     enum-told-3
     enum-known-checked
+    number-of-requires
     returns
     returns-2
     returns-3

@@ -17,6 +17,9 @@ enum-told-2 c = search needs
 enum-known-shown-2 : tie.Need-enum-known-shown-2
 enum-known-shown-2 c = search needs
 
+number-of-requires : tie.Need-number-of-requires
+number-of-requires c κs = search needs
+
 returns : tie.Need-returns
 returns c = sym (ap shownReply (c .before .shown .given .1))
 
@@ -27,7 +30,7 @@ returns-3 : tie.Need-returns-3
 returns-3 c = sym (ap shownReply (c .enum-told2 .given .1))
 
 returns-4 : tie.Need-returns-4
-returns-4 c = sym (ap shownReply (c .before .shown2 .given .1))
+returns-4 c = rw (c .before .before .shown2 .given .1, c .number-of .ensures)
 
 pub list-reply-spec : {M : Type 1} → statement M
 list-reply-spec =
@@ -37,6 +40,7 @@ list-reply-spec =
     enum-told
     enum-told-2
     enum-known-shown-2
+    number-of-requires
     returns
     returns-2
     returns-3

@@ -24,6 +24,9 @@ reply-of-requires-3 c κs = search needs
 enum-known-answer-2 : tie.Need-enum-known-answer-2
 enum-known-answer-2 c = search needs
 
+number-of-requires : tie.Need-number-of-requires
+number-of-requires c κs = search needs
+
 reply-of-requires-4 : tie.Need-reply-of-requires-4
 reply-of-requires-4 c κs = search needs
 
@@ -55,7 +58,7 @@ returns-3 : tie.Need-returns-3
 returns-3 c = rw (c .before .enum-told2 .given .1) (c .reply-of3 .ensures)
 
 returns-4 : tie.Need-returns-4
-returns-4 c = rw (c .before .before .answer2 .given .1) (c .reply-of4 .ensures)
+returns-4 c = rw (c .before .before .before .answer2 .given .1, ← (c .before .number-of .ensures)) (c .reply-of4 .ensures)
 
 returns-5 : tie.Need-returns-5
 returns-5 c = rw (c .before .enum-told3 .given .1) (c .reply-of5 .ensures)
@@ -77,6 +80,7 @@ edit-reply-spec =
     enum-told-2
     reply-of-requires-3
     enum-known-answer-2
+    number-of-requires
     reply-of-requires-4
     enum-told-3
     reply-of-requires-5

@@ -1,6 +1,6 @@
 -- `ask_noted` gives ask's answer, and the lines of the walk, or none where an opening test fails. Assumes nothing.
-use mathlib.Core.Path.{subst, ap, _∙_}
-use Rattle.opening.specs.Opening.{Opens, open-range, open-lent}
+use mathlib.Core.Path.{refl, subst, ap, _∙_}
+use Rattle.opening.specs.Opening.{Opens, open-lent}
 use Rattle.call_ask.specs.Ask.{walkReply, ask-refused, ask-opened}
 use Rattle.call_why.specs.Why.{lines-refused, lines-opened}
 use borrow.Author.Needs.{needs}
@@ -13,15 +13,10 @@ open-store-requires c κs = search needs
 enum-known-g : tie.Need-enum-known-g
 enum-known-g c = search needs
 
-plan-for-requires : tie.Need-plan-for-requires
-plan-for-requires c κs =
-    let w = c .before .before .before .before .before .before .args .store .now in
-    open-range _ w (subst (Opens w) (c .before .g .given .1) (c .before .before .before .open-store .ensures))
-
 walk-noted-requires : tie.Need-walk-noted-requires
 walk-noted-requires c κs =
-    let w = c .before .before .before .before .before .before .before .before .args .store .now in
-    open-lent _ (c .before .plan-for .result) w (subst (Opens w) (c .before .before .before .g .given .1) (c .before .before .before .before .before .open-store .ensures)) (c .before .plan-for .ensures .0)
+    let w = c .before .before .before .before .before .before .before .args .store .now in
+    open-lent _ _ w (subst (Opens w) (c .before .before .g .given .1) (c .before .before .before .before .open-store .ensures)) refl
 
 asked-from-requires : tie.Need-asked-from-requires
 asked-from-requires c κs = search needs
@@ -34,9 +29,9 @@ enum-told-2 c = search needs
 
 returns : tie.Need-returns
 returns c =
-    let a = c .before .before .before .before .before .before .before .before .before .before .args in
+    let a = c .before .before .before .before .before .before .before .before .before .args in
     let w = a .store .now in
-    let opens = subst (Opens w) (c .before .before .before .before .before .g .given .1) (c .before .before .before .before .before .before .before .open-store .ensures) in (
+    let opens = subst (Opens w) (c .before .before .before .before .g .given .1) (c .before .before .before .before .before .before .open-store .ensures) in (
       c .asked-from .ensures ∙ ap walkReply (c .before .walk-noted .ensures .0) ∙ ask-opened w (a .pair) _ opens,
       c .before .walk-noted .ensures .1 .1 ∙ lines-opened w (a .pair) _ opens _,
     )
@@ -59,7 +54,6 @@ ask-noted-spec =
     (tie.spec
     open-store-requires
     enum-known-g
-    plan-for-requires
     walk-noted-requires
     asked-from-requires
     enum-told

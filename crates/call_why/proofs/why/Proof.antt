@@ -11,6 +11,9 @@ ask-noted-requires c κs = search needs
 ask-reply-requires : tie.Need-ask-reply-requires
 ask-reply-requires c κs = search needs
 
+array-read-keep-if : tie.Need-array-read-keep-if
+array-read-keep-if c = search needs
+
 keep-if-requires : tie.Need-keep-if-requires
 keep-if-requires c κs = search needs
 
@@ -39,6 +42,7 @@ why-spec =
     (tie.spec
     ask-noted-requires
     ask-reply-requires
+    array-read-keep-if
     keep-if-requires
     array-read-trail
     element-write-trail

@@ -1,10 +1,10 @@
 -- `change_and_settle` tests the whole store, and leaves one with a fault as it is; else it edits and settles the head. Assumes nothing.
-use mathlib.Core.Path.{_≡_, sym, ap, _∙_}
+use mathlib.Core.Path.{_≡_, sym, _∙_}
 use denote.Ref.{now}
-use Rattle.rules.specs.Sound.{sound, fault}
-use Rattle.entries.specs.Run.{entry as indexed}
+use Rattle.fault.specs.declared.Judged.the-variants.{Sound}
+use Rattle.rules.specs.Faults.{fault}
 use Rattle.stored.specs.Fitting.{WordsFit}
-use Rattle.sound.specs.Levels.{wholeTold}
+use Rattle.entries.specs.Run.{entry as indexed}
 use Rattle.change.specs.Change.{faultOn, merge-stays}
 use Rattle.change.specs.Head.{accepted-editable}
 use Rattle.change.specs.Settled.{anew-ready, anew-settled}
@@ -34,7 +34,7 @@ settle-head-requires c κs =
     let a = c .before .before .before .before .before .before .before .before .before .before .before .before .args in
     let pre = c .before .before .before .before .before .before .before .before .before .before .before .before .pre in
     let fits : WordsFit (now (a .store)) = λ i. omega (arith, c .before .before .before .before .before .before .before .before .before .before .before .slice-known .given i) in
-    let passes : fault (a .g) (now (a .store)) ≡ sound = sym (c .before .before .before .before .before .before .before .before .whole-fault .ensures) ∙ ap wholeTold (c .before .before .before .before .before .before .enum-told .given .1) in
+    let passes : fault (a .g) (now (a .store)) ≡ Sound = sym (c .before .before .before .before .before .before .before .before .whole-fault .ensures) ∙ (c .before .before .before .before .before .before .enum-told .given .1) in
     let ready = anew-ready (a .g) (a .plan) (now (a .store)) _ (a .entry .pair) (a .entry .normal) (a .reach) (pre .0) fits (λ i. omega (arith, c .before .before .slice-known3 .given i)) (pre .1 .1 .0)
     (pre .1 .1 .1) (c .before .before .before .before .edit-head .ensures) passes in
     (ready .0, (pre .1 .0, ready .1))
@@ -46,7 +46,7 @@ returns : tie.Need-returns
 unfolding faultOn
 returns c =
     let a = c .before .before .before .before .before .before .before .args in
-    merge-stays (a .g) (indexed (a .entry)) (now (a .store)) (now (a .work)) _ (sym (c .before .before .before .whole-fault .ensures) ∙ ap wholeTold (c .before .fault .given .1))
+    merge-stays (a .g) (indexed (a .entry)) (now (a .store)) (now (a .work)) _ (sym (c .before .before .before .whole-fault .ensures) ∙ (c .before .fault .given .1))
 
 same-length-2 : tie.Need-same-length-2
 same-length-2 c = search needs
@@ -59,7 +59,7 @@ returns-2 c =
     let a = c .before .before .before .before .before .before .before .before .before .before .before .before .before .before .before .before .before .args in
     let pre = c .before .before .before .before .before .before .before .before .before .before .before .before .before .before .before .before .before .pre in
     let fits : WordsFit (now (a .store)) = λ i. omega (arith, c .before .before .before .before .before .before .before .before .before .before .before .before .before .before .before .before .slice-known .given i) in
-    let passes : fault (a .g) (now (a .store)) ≡ sound = sym (c .before .before .before .before .before .before .before .before .before .before .before .before .before .whole-fault .ensures) ∙ ap wholeTold (c .before .before .before .before .before .before .before .before .before .before .before .enum-told .given .1) in
+    let passes : fault (a .g) (now (a .store)) ≡ Sound = sym (c .before .before .before .before .before .before .before .before .before .before .before .before .before .whole-fault .ensures) ∙ (c .before .before .before .before .before .before .before .before .before .before .before .enum-told .given .1) in
     c .before .before .before .before .settle-head .ensures ∙
     anew-settled (a .g) (a .plan) (now (a .store)) _ (a .entry .pair) (a .entry .normal) (a .reach) (pre .0) fits (λ i. omega (arith, c .before .before .before .before .before .before .before .slice-known3 .given i)) (pre .1 .1 .0)
     (pre .1 .1 .1) (c .before .before .before .before .before .before .before .before .before .edit-head .ensures) passes

@@ -1,6 +1,6 @@
 -- `entry_at` gives the index entry that stands at a spot, from what its slot shows. Assumes nothing.
 use denote.Ref.{now}
-use Rattle.entries.specs.Spot.{spot-inside, entry-upcoming, next-fits}
+use Rattle.entries.specs.Spot.{entry-inside, entry-upcoming, next-fits}
 use borrow.Author.Needs.{needs}
 use Rattle.entries.proofs.entry_at.Statement.{statement}
 use Rattle.entries.proofs.entry_at.Tie as tie
@@ -15,7 +15,7 @@ read-slot-requires : tie.Need-read-slot-requires
 read-slot-requires c κs =
     let a = c .before .before .before .before .before .args in
     let asked = c .before .before .before .before .before .pre in
-    spot-inside (now (a .words)) (a .run) (a .spot) _ (asked .0) (asked .1 .0) (asked .1 .1) _ _ (c .before .before .before .cursor-at .ensures) (c .place-in .ensures)
+    entry-inside (now (a .words)) (a .run) (a .spot) _ (asked .0) (asked .1 .0) (asked .1 .1) _ _ (c .before .before .before .cursor-at .ensures) (c .place-in .ensures)
 
 is-normal-requires : tie.Need-is-normal-requires
 is-normal-requires c κs = search needs

@@ -1,18 +1,15 @@
--- `head_scan` gives what a pass over the head tells of it, its mark by `head-told`. Assumes nothing.
-use Rattle.geometry.specs.Lent.{head-lent, head-room-at, head-least}
-use Rattle.geometry.specs.Directory.{place-pages}
+-- `head_scan` gives what a pass over the head tells of it, its mark and its slot by `head-told`. Assumes nothing.
+use mathlib.Core.Path.{ap}
 use Rattle.rules.specs.Sound.{headSlots}
-use Rattle.form.specs.Passes.{headTested, head-told}
+use Rattle.form.specs.declared.HeadAt.{HeadAt}
+use Rattle.form.specs.Passes.{headAt, headTested, head-told}
 use native.Mathlib.Omega.{arith}
 use borrow.Author.Needs.{needs}
 use Rattle.form.proofs.head_scan.Statement.{statement}
 use Rattle.form.proofs.head_scan.Tie as tie
 
 shared-slice-read-count : tie.Need-shared-slice-read-count
-shared-slice-read-count c = search needs
-
-level-place-requires : tie.Need-level-place-requires
-level-place-requires c κs = search needs
+shared-slice-read-count c = omega (arith, c .before .before .pre .inside)
 
 lesser-requires : tie.Need-lesser-requires
 lesser-requires c κs = search needs
@@ -22,26 +19,19 @@ cast-scan-head c = search needs
 
 scan-head-requires : tie.Need-scan-head-requires
 scan-head-requires c κs =
-    let a = c .before .before .before .before .args in
-    let w = a .store .now in
-    let pre = c .before .before .before .before .pre in
-    omega (arith, c .lesser .ensures, head-room-at (a .g) (a .plan) w pre, head-lent (a .g) (a .plan) w pre, pre .small .head-room-below)
+    let pre = c .before .before .before .pre in
+    omega (arith, c .lesser .ensures, pre .inside, pre .few)
 
-sub-entries : tie.Need-sub-entries
-sub-entries c = search needs
+is-least-fence-requires : tie.Need-is-least-fence-requires
+is-least-fence-requires c κs =
+    let pre = c .before .before .before .before .pre in
+    omega (arith, pre .inside, pre .some)
 
 both-requires : tie.Need-both-requires
 both-requires c κs = search needs
 
 both-requires-2 : tie.Need-both-requires-2
 both-requires-2 c κs = search needs
-
-is-least-fence-requires : tie.Need-is-least-fence-requires
-is-least-fence-requires c κs =
-    let a = c .before .before .before .before .before .before .before .before .before .before .before .args in
-    let w = a .store .now in
-    let pre = c .before .before .before .before .before .before .before .before .before .before .before .pre in
-    omega (arith, head-least (a .g) (a .plan) w pre, head-lent (a .g) (a .plan) w pre)
 
 both-requires-3 : tie.Need-both-requires-3
 both-requires-3 c κs = search needs
@@ -52,28 +42,31 @@ both-requires-4 c κs = search needs
 both-requires-5 : tie.Need-both-requires-5
 both-requires-5 c κs = search needs
 
+slot-if-requires : tie.Need-slot-if-requires
+slot-if-requires c κs = search needs
+
 returns : tie.Need-returns
-unfolding headTested headSlots
+unfolding headAt headTested headSlots
 returns c =
     let a = c .before .before .before .before .before .before .before .before .before .before .before .before .before .before .before .args in
     let w = a .store .now in
-    head-told (a .g) w (a .asked)
-    (rw (c .both5 .ensures, c .before .both4 .ensures, c .before .before .both3 .ensures, c .before .before .before .is-least-fence .ensures, c .before .before .before .before .both2 .ensures, c .before .before .before .before .before .before .before .both .ensures, c .before .before .before .before .before .before .before .before .before .before .scan-head .ensures .0, c .before .before .before .before .before .before .before .before .before .before .before .lesser .ensures, c .before .before .before .before .before .before .before .before .before .before .before .before .level-place .ensures, place-pages (a .g) w 1, head-room-at (a .g) (a .plan) w (c .before .before .before .before .before .before .before .before .before .before .before .before .before .before .before .pre)))
+    λ g e.
+    head-told g w (a .asked) (omega (arith, c .before .before .before .before .before .before .before .before .before .before .before .before .before .before .before .pre .capacity, ap (λ (h : HeadAt). h .head) e))
+    (rw ((c .slot-if .ensures), (c .before .both5 .ensures), (c .before .before .before .both4 .ensures), (c .before .before .before .before .before .before .both3 .ensures), (c .before .before .before .before .before .before .before .both2 .ensures), (c .before .before .before .before .before .before .before .before .before .both .ensures), (c .before .before .before .before .before .before .before .before .before .before .is-least-fence .ensures), (c .before .before .before .before .before .before .before .before .before .before .before .scan-head .ensures), (c .before .before .before .before .before .before .before .before .before .before .before .before .lesser .ensures), e))
 
 pub head-scan-spec : {M : Type 1} → statement M
 head-scan-spec =
     tie.close
     (tie.spec
     shared-slice-read-count
-    level-place-requires
     lesser-requires
     cast-scan-head
     scan-head-requires
-    sub-entries
+    is-least-fence-requires
     both-requires
     both-requires-2
-    is-least-fence-requires
     both-requires-3
     both-requires-4
     both-requires-5
+    slot-if-requires
     returns)

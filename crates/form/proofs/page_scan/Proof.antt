@@ -1,24 +1,10 @@
--- `page_scan` gives what a pass over a page tells of it, its mark by `page-told`. Assumes nothing.
-use Prim.Native.Nat.{_+_}
+-- `page_scan` gives what a pass over a page tells of it, its mark and its slot by `page-told`. Assumes nothing.
 use Rattle.geometry.specs.Apart.{first-slot}
-use Rattle.geometry.specs.Directory.{place-pages}
 use Rattle.rules.specs.Sound.{countAt, pageSlots}
-use Rattle.form.specs.Passes.{page-told}
+use Rattle.form.specs.Passes.{pageAt, page-told}
 use borrow.Author.Needs.{needs}
 use Rattle.form.proofs.page_scan.Statement.{statement}
 use Rattle.form.proofs.page_scan.Tie as tie
-
-page-place-requires : tie.Need-page-place-requires
-page-place-requires c κs = search needs
-
-level-place-requires : tie.Need-level-place-requires
-level-place-requires c κs = search needs
-
-add-level-place : tie.Need-add-level-place
-add-level-place c = search needs
-
-level-place-requires-2 : tie.Need-level-place-requires-2
-level-place-requires-2 c κs = search needs
 
 mul-count : tie.Need-mul-count
 mul-count c = search needs
@@ -38,43 +24,34 @@ add-scan-page c = search needs
 scan-page-requires : tie.Need-scan-page-requires
 scan-page-requires c κs = search needs
 
-add-both : tie.Need-add-both
-add-both c = search needs
+count-right-requires : tie.Need-count-right-requires
+count-right-requires c κs = search needs
 
 both-requires : tie.Need-both-requires
 both-requires c κs = search needs
 
-count-right-requires : tie.Need-count-right-requires
-count-right-requires c κs = search needs
-
-both-requires-2 : tie.Need-both-requires-2
-both-requires-2 c κs = search needs
+slot-if-requires : tie.Need-slot-if-requires
+slot-if-requires c κs = search needs
 
 returns : tie.Need-returns
-unfolding pageSlots countAt
+unfolding pageAt pageSlots countAt
 returns c =
-    let a = c .before .before .before .before .before .before .before .before .before .before .before .before .args in
-    let g = a .g in
+    let a = c .before .before .before .before .before .before .before .args in
     let w = a .store .now in
-    page-told g w (a .asked) (a .level) (a .page .0) (c .before .before .before .before .before .before .before .before .before .before .before .before .pre .1 .1)
-    (rw (c .both2 .ensures, c .before .count-right .ensures, c .before .before .both .ensures, c .before .before .before .before .before .scan-page .ensures, c .before .before .before .before .before .before .lesser .ensures, c .before .before .before .before .before .before .before .before .level-place2 .ensures, c .before .before .before .before .before .before .before .before .before .level-place .ensures, place-pages g w (a .level + 1), place-pages g w (a .level), c .before .before .before .before .before .before .before .before .before .before .page-place .ensures .0, first-slot g (a .level) (a .page .0)))
+    λ g i p h e.
+    page-told g w (a .asked) i p h (rw ((c .slot-if .ensures), (c .before .both .ensures), (c .before .before .count-right .ensures), (c .before .before .before .scan-page .ensures), (c .before .before .before .before .lesser .ensures), e, first-slot g i p))
 
 pub page-scan-spec : {M : Type 1} → statement M
 page-scan-spec =
     tie.close
     (tie.spec
-    page-place-requires
-    level-place-requires
-    add-level-place
-    level-place-requires-2
     mul-count
     shared-slice-read-count
     lesser-requires
     cast-slots
     add-scan-page
     scan-page-requires
-    add-both
-    both-requires
     count-right-requires
-    both-requires-2
+    both-requires
+    slot-if-requires
     returns)

@@ -19,8 +19,11 @@ is-empty-requires-4 c κs = search needs
 
 returns : tie.Need-returns
 returns c =
-    let a = c .before .before .before .before .before .before .before .before .before .args in
-    all-none (now (a .words)) (a .runs) _ _ _ _ (c .before .before .before .before .before .before .is-empty .ensures) (c .before .before .before .before .is-empty2 .ensures) (c .before .before .is-empty3 .ensures) (c .is-empty4 .ensures)
+    let third = c .before .before in
+    let second = third .before .before in
+    let first = second .before .before in
+    let a = first .before .before .before .args in
+    all-none (now (a .words)) (a .runs) _ _ _ _ (first .is-empty .ensures) (second .is-empty2 .ensures) (third .is-empty3 .ensures) (c .is-empty4 .ensures)
 
 pub all-empty-spec : {M : Type 1} → statement M
 all-empty-spec =

@@ -37,7 +37,13 @@ add-t16 c = search needs
 
 returns : tie.Need-returns
 unfolding treeIn
-returns c = rw (count-four, count-four, c .before .before .before .before .before .before .before .before .before .before .before .before .before .before .count-run .ensures .0, c .before .before .before .before .before .before .before .before .before .before .before .before .count-run2 .ensures .0, c .before .before .before .before .before .before .before .before .before .before .count-run3 .ensures .0, c .before .before .before .before .before .before .before .before .count-run4 .ensures .0)
+returns c =
+    let sums = c .before .before .before .before in
+    let fourth = sums .before .before .before .before in
+    let third = fourth .before .before in
+    let second = third .before .before in
+    let first = second .before .before in
+    rw (count-four, count-four, first .count-run .ensures .0, second .count-run2 .ensures .0, third .count-run3 .ensures .0, fourth .count-run4 .ensures .0)
 
 pub count-kinds-spec : {M : Type 1} → statement M
 count-kinds-spec =

@@ -10,7 +10,8 @@ use Rattle.kinds.proofs.count_page.Statement.{statement}
 use Rattle.kinds.proofs.count_page.Tie as tie
 
 abbrev Inv-loop : tie.InvT-loop
-Inv-loop words run page slots normal₀ filters₀ slot₀ normal filters slot = Counted normal filters (pageFrom words run (page .0) slot) (pageFrom words run (page .0) 0) × (normal ≤ slot) × (filters ≤ slot)
+Inv-loop words run page slots normal₀ filters₀ slot₀ normal filters slot =
+    Counted normal filters (pageFrom words run (page .0) slot) (pageFrom words run (page .0) 0) × (normal ≤ slot) × (filters ≤ slot)
 
 abbrev μ-loop : tie.MeasureT-loop
 μ-loop words run page slots normal₀ filters₀ slot₀ normal filters slot = slots - slot
@@ -56,14 +57,17 @@ loop-less c = omega (arith, c .before .before .before .before .before .before .l
 
 loop-again : tie.Need-loop-again Inv-loop μ-loop
 loop-again c =
-    let a = c .before .before .before .before .before .before .before .before .before .before .args in
-    let loop = c .before .before .before .before .before .before .before .loop in
-    let place-in = c .before .before .before .before .before .place-in in
     let read-slot = c .before .before .before .before .read-slot in
+    let place-in = c .before .before .before .before .before .place-in in
+    let tested = c .before .before .before .before .before .before in
+    let loop = tested .before .loop in
+    let counted = tested .before .before .count-in in
+    let a = tested .before .before .before .before .args in
     let one-if = c .before .before .one-if in
     let w = now (a .words) in
     let read = slot-read w (a .run) (a .page .0) (loop .slot) (place-in .result) _ (place-in .ensures) (read-slot .ensures) in (
-      counted-slot w (a .run) (a .page .0) (loop .normal) (loop .filters) _ _ (loop .slot) (c .before .before .before .before .before .before .before .before .count-in .ensures) (loop .inv .0) (read-slot .result) _ _ _ _ (c .before .before .before .before .before .before .loop-test .taken) read (c .before .before .before .is-normal .ensures) (c .before .is-filter .ensures) (one-if .ensures .0) (c .one-if2 .ensures .0),
+      counted-slot w (a .run) (a .page .0) (loop .normal) (loop .filters) _ _ (loop .slot) (counted .ensures) (loop .inv .0)
+          (read-slot .result) _ _ _ _ (tested .loop-test .taken) read (c .before .before .before .is-normal .ensures) (c .before .is-filter .ensures) (one-if .ensures .0) (c .one-if2 .ensures .0),
       omega (arith, loop .inv, one-if .ensures .1),
       omega (arith, loop .inv, c .one-if2 .ensures .1),
     )
@@ -71,7 +75,8 @@ loop-again c =
 returns : tie.Need-returns Inv-loop μ-loop
 returns c =
     let a = c .before .before .before .before .args in
-    page-counted (now (a .words)) (a .run) (a .page .0) (c .before .loop .normal) (c .before .loop .filters) _ _ (c .before .loop .slot) (c .before .before .count-in .ensures) (c .before .loop .inv .0) (c .loop-test .left)
+    page-counted (now (a .words)) (a .run) (a .page .0) (c .before .loop .normal) (c .before .loop .filters) _ _ (c .before .loop .slot) (c .before .before .count-in .ensures)
+    (c .before .loop .inv .0) (c .loop-test .left)
 
 pub count-page-spec : {M : Type 1} → statement M
 count-page-spec =

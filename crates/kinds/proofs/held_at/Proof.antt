@@ -21,8 +21,12 @@ told-at-requires-4 c κs = search needs
 returns : tie.Need-returns
 unfolding heldFirst upcomings
 returns c =
-    let a = c .before .before .before .before .before .before .before .before .before .args in
-    c .told-at4 .ensures ∙ ap (decides (a .pair) _) (c .before .before .told-at3 .ensures ∙ ap (decides (a .pair) _) (c .before .before .before .before .told-at2 .ensures ∙ ap (decides (a .pair) _) (c .before .before .before .before .before .before .told-at .ensures)))
+    let upper = c .before .before in
+    let lower = upper .before .before in
+    let lowest = lower .before .before in
+    let a = lowest .before .before .before .args in
+    c .told-at4 .ensures ∙
+    ap (decides (a .pair) _) (upper .told-at3 .ensures ∙ ap (decides (a .pair) _) (lower .told-at2 .ensures ∙ ap (decides (a .pair) _) (lowest .told-at .ensures)))
 
 pub held-at-spec : {M : Type 1} → statement M
 held-at-spec =

@@ -22,21 +22,33 @@ both-requires-2 c κs = search needs
 one-if-requires : tie.Need-one-if-requires
 one-if-requires c κs = search needs
 
-add-t12 : tie.Need-add-t12
-add-t12 c = search needs
-
-comes-before-requires : tie.Need-comes-before-requires
-comes-before-requires c κs = search needs
+add-t13 : tie.Need-add-t13
+add-t13 c = search needs
 
 one-if-requires-2 : tie.Need-one-if-requires-2
 one-if-requires-2 c κs = search needs
 
-add-t16 : tie.Need-add-t16
-add-t16 c = search needs
+add-t15 : tie.Need-add-t15
+add-t15 c = search needs
+
+one-if-requires-3 : tie.Need-one-if-requires-3
+one-if-requires-3 c κs = search needs
+
+add-t17 : tie.Need-add-t17
+add-t17 c = search needs
+
+comes-before-requires : tie.Need-comes-before-requires
+comes-before-requires c κs = search needs
+
+one-if-requires-4 : tie.Need-one-if-requires-4
+one-if-requires-4 c κs = search needs
+
+add-t21 : tie.Need-add-t21
+add-t21 c = search needs
 
 returns : tie.Need-returns
 unfolding stepped
-returns c = rw (c .before .one-if2 .ensures .0, c .before .before .comes-before .ensures, c .before .before .before .before .one-if .ensures .0, c .before .before .before .before .before .both2 .ensures, c .before .before .before .before .before .before .both .ensures, c .before .before .before .before .before .before .before .may-follow .ensures, c .before .before .before .before .before .before .before .before .is-fence .ensures, c .before .before .before .before .before .before .before .before .before .rank-of .ensures)
+returns c = rw ((c .before .one-if4 .ensures .0), (c .before .before .comes-before .ensures), (c .before .before .before .before .one-if3 .ensures .0), (c .before .before .before .before .before .before .one-if2 .ensures .0), (c .before .before .before .before .before .before .before .before .one-if .ensures .0), (c .before .before .before .before .before .before .before .before .before .both2 .ensures), (c .before .before .before .before .before .before .before .before .before .before .both .ensures), (c .before .before .before .before .before .before .before .before .before .before .before .may-follow .ensures), (c .before .before .before .before .before .before .before .before .before .before .before .before .is-fence .ensures), (c .before .before .before .before .before .before .before .before .before .before .before .before .before .rank-of .ensures))
 
 pub scan-step-spec : {M : Type 1} → statement M
 scan-step-spec =
@@ -48,8 +60,12 @@ scan-step-spec =
     both-requires
     both-requires-2
     one-if-requires
-    add-t12
-    comes-before-requires
+    add-t13
     one-if-requires-2
-    add-t16
+    add-t15
+    one-if-requires-3
+    add-t17
+    comes-before-requires
+    one-if-requires-4
+    add-t21
     returns)

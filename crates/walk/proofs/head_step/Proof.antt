@@ -1,4 +1,5 @@
 -- `head_step` gives what the head tells, from what the pass over it told. Assumes nothing.
+use Rattle.fault.specs.declared.Part.the-variants.{Head}
 use mathlib.Core.Path.{ap, _∙_}
 use Rattle.laws.specs.Tests.{told-no, told-past}
 use Rattle.geometry.specs.Lent.{head-lent}
@@ -13,7 +14,7 @@ returns : tie.Need-returns
 returns c =
     let a = c .before .before .before .args in
     let mark = head-formed (a .g) (a .store .now) (a .asked) (c .before .before .before .pre .1) in
-    (head-broken (a .g) (a .store .now) (a .asked) (told-no _ _ mark (c .if1 .taken)), tt)
+    (head-broken (a .g) (a .store .now) (a .asked) (c .before .before .before .pre .1) (told-no _ _ mark (c .if1 .taken)), tt)
 
 tell-above-requires : tie.Need-tell-above-requires
 tell-above-requires c κs =
@@ -32,8 +33,8 @@ returns-2 c =
     let a = c .before .before .before .before .args in
     let pre = c .before .before .before .before .pre in
     let right = told-past _ _ (head-formed (a .g) (a .store .now) (a .asked) (pre .1)) (c .before .if1 .left) in (
-      c .tell-above .ensures ∙ rw (pre .1) (head-tells (a .g) (a .store .now) (a .asked) right),
-      rw (c .tell-above .ensures, pre .1) (head-within (a .g) (a .store .now) (a .asked) right),
+      c .tell-above .ensures Head 0 0 ∙ rw (pre .1) (head-tells (a .g) (a .store .now) (a .asked) right),
+      rw (c .tell-above .ensures Head 0 0, pre .1) (head-within (a .g) (a .store .now) (a .asked) right),
     )
 
 pub head-step-spec : {M : Type 1} → statement M

@@ -4,7 +4,7 @@ use mathlib.Core.Path.{_≡_, refl}
 use lib.ListN.{length-set}
 use borrow.Author.Tests.{le-leb, lt-leb}
 use Rattle.trail_words.specs.Places.{lineStart}
-use Rattle.walk.specs.Lines.{lineWords, noteAt}
+use Rattle.walk.specs.Lines.{lineWords, noteAt, numbers-seen}
 use native.Mathlib.Omega.{arith}
 use borrow.Author.Needs.{needs}
 use Rattle.walk.proofs.note.Statement.{statement}
@@ -82,11 +82,12 @@ returns c =
     let two : 2 + 5 * level + 2 ≡ suc (suc (2 + 5 * level)) = omega arith in
     let three : 2 + 5 * level + 3 ≡ suc (suc (suc (2 + 5 * level))) = omega arith in
     let four : 2 + 5 * level + 4 ≡ suc (suc (suc (suc (2 + 5 * level)))) = omega arith in
-    rw (le-leb _ _ (c .before .before .if1 .taken), zero, one, two, three, four, c .follow-number .ensures, c .before .entry-number .ensures) refl
+    λ part.
+    rw (le-leb _ _ (c .before .before .if1 .taken), zero, one, two, three, four, c .follow-number .ensures, c .before .entry-number .ensures, numbers-seen part level (c .before .before .before .before .args .page .0) (c .before .before .before .before .args .look .step) .0, numbers-seen part level (c .before .before .before .before .args .page .0) (c .before .before .before .before .args .look .step) .1) refl
 
 returns-2 : tie.Need-returns-2
 unfolding noteAt lineStart
-returns-2 c = rw (lt-leb _ _ (c .if1 .left)) refl
+returns-2 c = λ part. rw (lt-leb _ _ (c .if1 .left)) refl
 
 pub note-spec : {M : Type 1} → statement M
 note-spec =

@@ -30,11 +30,11 @@ fence-back-requires c κs = search needs
 
 returns : tie.Need-returns
 unfolding aboveStep
-returns c = rw (← (c .before .before .before .met-at .ensures), c .before .normal .given .1)
+returns c = λ part i p. rw (← (c .before .before .before .met-at .ensures), c .before .normal .given .1)
 
 returns-2 : tie.Need-returns-2
 unfolding aboveStep
-returns-2 c = rw (← (c .before .before .before .met-at .ensures), c .before .enum-told .given .1, c .fence-back .ensures)
+returns-2 c = λ part i p. rw (← (c .before .before .before .met-at .ensures), c .before .enum-told .given .1, c .fence-back .ensures)
 
 pub tell-above-spec : {M : Type 1} → statement M
 tell-above-spec =

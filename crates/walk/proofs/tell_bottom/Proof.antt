@@ -7,7 +7,7 @@ use Rattle.walk.proofs.tell_bottom.Tie as tie
 
 returns : tie.Need-returns
 unfolding bottomStep
-returns c = rw (eq-eqb _ _ (c .if1 .taken))
+returns c = λ part i p. rw (eq-eqb _ _ (c .if1 .taken))
 
 sub-last : tie.Need-sub-last
 sub-last c = search needs
@@ -32,11 +32,11 @@ enum-told c = search needs
 
 returns-2 : tie.Need-returns-2
 unfolding bottomStep
-returns-2 c = rw (ne-eqb _ _ (c .before .before .before .before .if1 .left), ← (c .before .before .before .met-at .ensures), c .before .normal .given .1)
+returns-2 c = λ part i p. rw (ne-eqb _ _ (c .before .before .before .before .if1 .left), ← (c .before .before .before .met-at .ensures), c .before .normal .given .1)
 
 returns-3 : tie.Need-returns-3
 unfolding bottomStep
-returns-3 c = rw (ne-eqb _ _ (c .before .before .before .if1 .left), ← (c .before .before .met-at .ensures), c .enum-told .given .1)
+returns-3 c = λ part i p. rw (ne-eqb _ _ (c .before .before .before .if1 .left), ← (c .before .before .met-at .ensures), c .enum-told .given .1)
 
 pub tell-bottom-spec : {M : Type 1} → statement M
 tell-bottom-spec =

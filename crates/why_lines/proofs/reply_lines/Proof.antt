@@ -25,6 +25,12 @@ print-bytes-requires-2 c κs = search needs
 element-copy-out-fault-lines : tie.Need-element-copy-out-fault-lines
 element-copy-out-fault-lines c = search needs
 
+element-copy-out-fault-lines-2 : tie.Need-element-copy-out-fault-lines-2
+element-copy-out-fault-lines-2 c = search needs
+
+element-copy-out-fault-lines-3 : tie.Need-element-copy-out-fault-lines-3
+element-copy-out-fault-lines-3 c = search needs
+
 fault-lines-requires : tie.Need-fault-lines-requires
 fault-lines-requires c κs = search needs
 
@@ -67,7 +73,7 @@ same-length-4 c = search needs
 returns-4 : tie.Need-returns-4
 returns-4 c =
     let at-fault-lines = c .before .before in
-    let at-match = at-fault-lines .before .before .before in
+    let at-match = at-fault-lines .before .before .before .before .before in
     let entry = at-match .before .before in
     let told = at-fault-lines .fault-lines .ensures in
     let other = at-match .match .rest in
@@ -84,6 +90,8 @@ reply-lines-spec =
     slice-aggregate-print-bytes-2
     print-bytes-requires-2
     element-copy-out-fault-lines
+    element-copy-out-fault-lines-2
+    element-copy-out-fault-lines-3
     fault-lines-requires
     same-length
     returns

@@ -17,6 +17,11 @@ slice-aggregate-add-reply c =
     let a = c .before .before .before .before .before .args in
     sym (ap length (c .before .before .why .ensures .1) ∙ length-why-words (a .store .now) (a .pair))
 
+slice-aggregate-add-reply-2 : tie.Need-slice-aggregate-add-reply-2
+slice-aggregate-add-reply-2 c =
+    let a = c .before .before .before .before .before .before .args in
+    sym (ap length (c .before .before .before .why .ensures .1) ∙ length-why-words (a .store .now) (a .pair))
+
 add-reply-requires : tie.Need-add-reply-requires
 add-reply-requires c κs = search needs
 
@@ -26,4 +31,4 @@ returns c = search needs
 pub add-why-spec : {M : Type 1} → statement M
 add-why-spec =
     tie.close
-    (tie.spec why-requires ask-reply-requires slice-aggregate-add-reply add-reply-requires returns)
+    (tie.spec why-requires ask-reply-requires slice-aggregate-add-reply slice-aggregate-add-reply-2 add-reply-requires returns)

@@ -1,0 +1,2 @@
+-- The numbers of faults.
+pub mod Numbers
