@@ -14,7 +14,7 @@ use slot::Pair;
 use walk::Walked;
 
 // What ask answers: held or not with the deciding level, or why it was refused.
-#[derive(Drop)]
+#[derive(Clone, Copy)]
 pub enum Asked {
     Answer(bool, u32),
     Range,
@@ -52,7 +52,7 @@ pub fn asked_from(walked: Walked) -> Asked
 }
 
 // The number of ask's reply, and its values: 1 held or 0, the deciding level, and 0; of a fault its place.
-#[derive(Drop)]
+#[derive(Clone, Copy)]
 pub struct AskReply {
     pub number: u32,
     pub values: [u32; 3],

@@ -16,7 +16,7 @@ use opening::Opened;
 use slot::Pair;
 
 // What check answers: that the store is sound, or why it was refused.
-#[derive(Drop)]
+#[derive(Clone, Copy)]
 pub enum Checked {
     Done,
     Range,
@@ -48,7 +48,7 @@ fn check_open(store: &[u32], g: Geometry) -> Checked
 }
 
 // What list answers: the pairs written and the mark, or why it was refused.
-#[derive(Drop)]
+#[derive(Clone, Copy)]
 pub enum Shown {
     Pairs(u32, u32),
     Range,
@@ -83,7 +83,7 @@ fn list_open(store: &[u32], g: Geometry, first: Pair, second: Pair, out: &mut [u
 }
 
 // The number of check's reply, and its values: zeros; of a fault its place.
-#[derive(Drop)]
+#[derive(Clone, Copy)]
 pub struct CheckReply {
     pub number: u32,
     pub values: [u32; 3],
@@ -117,7 +117,7 @@ pub fn check_reply(checked: Checked) -> CheckReply
 }
 
 // The number of list's reply, and its values: the pairs written, the mark, and 0; of a fault its place.
-#[derive(Drop)]
+#[derive(Clone, Copy)]
 pub struct ListReply {
     pub number: u32,
     pub values: [u32; 3],

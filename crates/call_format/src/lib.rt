@@ -6,7 +6,7 @@ ghost use Rattle.call_format.specs.Format.{formatted_reply, format_reply, format
 use geometry::Geometry;
 
 // What format answers: that the store is made, or why it was refused.
-#[derive(Drop)]
+#[derive(Clone, Copy)]
 pub enum Formatted {
     Done,
     Range,

@@ -20,7 +20,7 @@ use slot::Pair;
 use walk::Walked;
 
 // What put and drop answer: live pairs, the deepest level merged into and the pages written, or why they were refused.
-#[derive(Drop)]
+#[derive(Clone, Copy)]
 pub enum Edited {
     Done(u32, u32, u32),
     Range,
@@ -32,7 +32,7 @@ pub enum Edited {
 }
 
 // The answer, with the index entries in each level beside it.
-#[derive(Drop)]
+#[derive(Clone, Copy)]
 pub struct Changed {
     pub answer: Edited,
     pub entries: [u32; 4],
@@ -115,7 +115,7 @@ fn edit_found(
 }
 
 // What the tests after the walk come to: nothing against the change, or why it is refused.
-#[derive(Drop)]
+#[derive(Clone, Copy)]
 pub enum Tested {
     Passed,
     Refused(Edited),
@@ -196,7 +196,7 @@ fn unchanged(answer: Edited) -> Changed
 
 // The number of put's or drop's reply, and its values: live pairs, the deepest level merged into and the pages written, or the place of a
 // fault; and the index entries in each level.
-#[derive(Drop)]
+#[derive(Clone, Copy)]
 pub struct EditReply {
     pub number: u32,
     pub values: [u32; 7],

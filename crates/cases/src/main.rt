@@ -15,7 +15,7 @@ const LEVEL_1_OF_21_2_2: usize = 78;
 
 const LEVEL_1_OF_10_4_3: usize = 48;
 
-#[derive(Drop)]
+#[derive(Clone, Copy)]
 pub enum Op {
     Put,
     Drop,

@@ -21,21 +21,21 @@ use geometry::{Geometry, Plan};
 use slot::SlotNo;
 
 // What a change came to: live pairs, the deepest level merged into and the pages written, or a fault, with nothing changed.
-#[derive(Drop)]
+#[derive(Clone, Copy)]
 pub enum Outcome {
     Done(u32, u32, u32),
     Fault(Fault),
 }
 
 // What came of a change, with the index entries in each level.
-#[derive(Drop)]
+#[derive(Clone, Copy)]
 pub struct Report {
     pub outcome: Outcome,
     pub entries: [u32; 4],
 }
 
 // What the walk found of a pair: whether it is held, the level that decides, and what the pass over the head told.
-#[derive(Drop)]
+#[derive(Clone, Copy)]
 pub struct Finding {
     pub held: bool,
     pub level: u32,

@@ -14,7 +14,7 @@ use page::{is_fence, is_normal};
 use slot::{Kind, Pair, Pid, Slot, SlotNo};
 
 // Pages of 64 words, from the first word on. A page's slot count above `most` is read as `most`. The head is a run of one page.
-#[derive(Drop)]
+#[derive(Clone, Copy)]
 pub struct Run {
     pub start: u32,
     pub pages: u32,
@@ -22,7 +22,7 @@ pub struct Run {
 }
 
 // A place among the slots of a run.
-#[derive(Drop)]
+#[derive(Clone, Copy)]
 pub struct Cursor {
     pub page: Pid,
     pub slot: SlotNo,
@@ -32,14 +32,14 @@ pub struct Cursor {
 const PAGE_STEP: u64 = 4294967296;
 
 // An index entry: a pair, and normal or a filter.
-#[derive(Drop)]
+#[derive(Clone, Copy)]
 pub struct Entry {
     pub pair: Pair,
     pub normal: bool,
 }
 
 // The runs of four levels, from the top down. A level that does not exist has no pages.
-#[derive(Drop)]
+#[derive(Clone, Copy)]
 pub struct Runs {
     pub head: Run,
     pub first: Run,
@@ -48,7 +48,7 @@ pub struct Runs {
 }
 
 // Spots in each of four runs.
-#[derive(Drop)]
+#[derive(Clone, Copy)]
 pub struct Spots {
     pub head: u64,
     pub first: u64,

@@ -3,7 +3,7 @@ ghost use Rattle.std.specs.Prelude.{◌≡◌};
 ghost use Rattle.fault.specs.Numbers.{number_of};
 
 // Nothing, or a fault.
-#[derive(Drop)]
+#[derive(Clone, Copy)]
 pub enum Judged {
     Sound,
     FaultAt(Fault),
@@ -11,7 +11,7 @@ pub enum Judged {
 
 // What is at fault and where. Level, page and slot are each 0 where they have no meaning; pages and slots count from 0, and the head is level 0,
 // page 0.
-#[derive(Drop)]
+#[derive(Clone, Copy)]
 pub struct Fault {
     pub part: Part,
     pub level: u32,
@@ -21,7 +21,7 @@ pub struct Fault {
 
 // What is at fault, in the order in which the whole store is tested: the directory; the head, as ask tests it; the form of a page; all else in
 // a level's writing; kinds, alternation and live across levels.
-#[derive(Drop)]
+#[derive(Clone, Copy)]
 pub enum Part {
     Directory,
     Head,

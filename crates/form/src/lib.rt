@@ -18,7 +18,7 @@ use slot::{Pair, Pid, least_pair, read_slot, same_pair};
 
 // What a pass over a page tells of it: whether its count, slot order and tags are right, the slot to tell where they are not, and how many of
 // its slots are at most the pair asked.
-#[derive(Drop)]
+#[derive(Clone, Copy)]
 pub struct PageRead {
     pub formed: bool,
     pub slot: u32,
@@ -27,7 +27,7 @@ pub struct PageRead {
 
 // What a pass over the head tells of it: whether it is right, the slot to tell where it is not, its index entries, and how many of its slots
 // are at most the pair asked.
-#[derive(Drop)]
+#[derive(Clone, Copy)]
 pub struct HeadRead {
     pub formed: bool,
     pub slot: u32,
@@ -65,7 +65,7 @@ fn pages_right(store: &[u32], g: Geometry, plan: Plan, level: u32) -> bool
 }
 
 // Where a page stands and what its form is tested by: its first word, the pages of the level below, and whether it is the only page of the bottom.
-#[derive(Drop)]
+#[derive(Clone, Copy)]
 pub struct PageAt {
     pub place: usize,
     pub below: u32,
@@ -113,7 +113,7 @@ fn count_right(count: u32, alone: bool) -> bool
 }
 
 // What the head is tested by: the slots that it has room for, the pages of level 1, and its capacity.
-#[derive(Drop)]
+#[derive(Clone, Copy)]
 pub struct HeadAt {
     pub room: u32,
     pub below: u32,

@@ -48,7 +48,7 @@ pub const MOST_RATIO: u32 = 8;
 pub const MOST_LEVELS: u32 = 4;
 
 // The head's capacity H, the ratio k and the number of levels l.
-#[derive(Drop)]
+#[derive(Clone, Copy)]
 pub struct Geometry {
     pub head: u32,
     pub ratio: u32,
@@ -57,7 +57,7 @@ pub struct Geometry {
 
 // What a geometry fixes: for each level its capacity, its page room and the place of its first word,
 // and the words of the store and of the work area. Level 0 is the head, whose place is its first slot's.
-#[derive(Drop)]
+#[derive(Clone, Copy)]
 pub struct Plan {
     pub capacities: [u32; 4],
     pub rooms: [u32; 4],
@@ -68,7 +68,7 @@ pub struct Plan {
 }
 
 // Where a level below the head stands: the place of its first word, the pages that it has room for, and the pages that it has.
-#[derive(Drop)]
+#[derive(Clone, Copy)]
 pub struct LevelPlace {
     pub start: u32,
     pub room: u32,

@@ -5,7 +5,7 @@ use Rattle.std.proofs.Common.{add-one, ◌∙◌}
 use native.Mathlib.Omega.{arith}
 use Rattle.std.specs.Prelude.{◌≡◌, Bool, true, get_or, eqb}
 use Rattle.std.proofs.Math.Path.{refl, ap, ap₂, sym, fun_ext}
-use mathlib.Core.List.{List, [], ◌∷◌}
+use mathlib.Core.List.{List, [], ◌∷◌, ◌++◌}
 use Rattle.std.proofs.Math.ListN.{length}
 use Rattle.laws.specs.Lists.{span, concat, all}
 use Rattle.fault.specs.declared.Fault.{Fault}
@@ -95,6 +95,13 @@ level_agree : (level size : ℕ) (places : List ℕ) (es : Level) (t u : Tree) �
 unfolding level_fault stands_over
 level_agree level size places es t u h = rw (wrong_agree t u h es, ap (λ (f : Entry → Bool). all f es) (fun_ext h))
 
+-- What ends in nothing tells what stands before it.
+sound_behind : (js : List Judged) → first_fault (js ++ Sound ∷ []) ≡ first_fault js
+unfolding first_fault
+sound_behind [] = refl
+sound_behind (Sound ∷ js) = sound_behind js
+sound_behind (FaultAt f ∷ js) = refl
+
 -- The four runs of a store tell what the rules find: levels without entries below tell nothing.
 module _ (g : Geometry) (w : List ℕ) where
   abbrev at_level : ℕ → Level → Tree → Judged
@@ -121,14 +128,18 @@ module _ (g : Geometry) (w : List ℕ) where
   two_found : (a b : Level) → first_fault (kinds_faults g w 0 (a ∷ b ∷ [] ∷ [] ∷ [])) ≡ first_fault (kinds_faults g w 0 (a ∷ b ∷ []))
   unfolding first_fault kinds_faults level_fault stands_over all held find
   two_found a b =
-      ap₂ (λ (x y : Judged). first_fault (x ∷ y ∷ [])) (agree_at 0 a (b ∷ [] ∷ [] ∷ []) (b ∷ []) (λ e. refl)) (agree_at 1 b ([] ∷ [] ∷ []) [] (λ e. refl))
+      ap₂ (λ (x y : Judged). first_fault (x ∷ y ∷ Sound ∷ Sound ∷ [])) (agree_at 0 a (b ∷ [] ∷ [] ∷ []) (b ∷ []) (λ e. refl))
+      (agree_at 1 b ([] ∷ [] ∷ []) [] (λ e. refl)) ∙
+      sound_behind (at_level 0 a (b ∷ []) ∷ at_level 1 b [] ∷ Sound ∷ []) ∙
+      sound_behind (at_level 0 a (b ∷ []) ∷ at_level 1 b [] ∷ [])
 
   three_found : (a b c : Level) → first_fault (kinds_faults g w 0 (a ∷ b ∷ c ∷ [] ∷ [])) ≡ first_fault (kinds_faults g w 0 (a ∷ b ∷ c ∷ []))
   unfolding first_fault kinds_faults level_fault stands_over all held find
   three_found a b c =
-      ap₂ (λ (x y : Judged). first_fault (x ∷ y ∷ at_level 2 c ([] ∷ []) ∷ [])) (agree_at 0 a (b ∷ c ∷ [] ∷ []) (b ∷ c ∷ []) (λ e. refl))
+      ap₂ (λ (x y : Judged). first_fault (x ∷ y ∷ at_level 2 c ([] ∷ []) ∷ Sound ∷ [])) (agree_at 0 a (b ∷ c ∷ [] ∷ []) (b ∷ c ∷ []) (λ e. refl))
       (agree_at 1 b (c ∷ [] ∷ []) (c ∷ []) (λ e. refl)) ∙
-      ap (λ (z : Judged). first_fault (at_level 0 a (b ∷ c ∷ []) ∷ at_level 1 b (c ∷ []) ∷ z ∷ [])) (agree_at 2 c ([] ∷ []) [] (λ e. refl))
+      ap (λ (z : Judged). first_fault (at_level 0 a (b ∷ c ∷ []) ∷ at_level 1 b (c ∷ []) ∷ z ∷ Sound ∷ [])) (agree_at 2 c ([] ∷ []) [] (λ e. refl)) ∙
+      sound_behind (at_level 0 a (b ∷ c ∷ []) ∷ at_level 1 b (c ∷ []) ∷ at_level 2 c [] ∷ [])
 
   runs_told : InRange g → first_fault (faults_from w 0 (runs_of g w) 4) ≡ first_fault (kinds_faults g w 0 (tree_of g w))
   runs_told fit =

@@ -25,7 +25,7 @@ use page::is_normal;
 use slot::{Kind, Pair, Pid, SlotNo, read_slot};
 
 // The normal entries and the filters of a level or a tree.
-#[derive(Drop)]
+#[derive(Clone, Copy)]
 pub struct KindCounts {
     pub normal: u32,
     pub filters: u32,

@@ -128,7 +128,7 @@ pub extern "C" fn landing_work_words(h: u32, k: u32, l: u32) -> u32
 }
 
 // The words of a store and of a work area.
-#[derive(Drop)]
+#[derive(Clone, Copy)]
 pub struct Lengths {
     pub store: u32,
     pub work: u32,

@@ -5,3 +5,4 @@ pub mod First
 pub mod Flat
 pub mod Joined
 pub mod Sets
+pub mod Clauses

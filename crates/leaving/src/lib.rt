@@ -18,7 +18,7 @@ use written::same_slot;
 
 // What a level or the head should be: the writing of its own index entries, in the order in which they stand, over the pages of the level
 // below, in the pages that it has room for.
-#[derive(Drop)]
+#[derive(Clone, Copy)]
 pub struct Writing {
     pub own: Run,
     pub room: u32,
@@ -28,7 +28,7 @@ pub struct Writing {
 }
 
 // A slot of a writing, and what comes behind it: the spot of the next own entry, and the next fence.
-#[derive(Drop)]
+#[derive(Clone, Copy)]
 struct Next {
     slot: Slot,
     spot: u64,

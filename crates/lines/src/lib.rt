@@ -5,7 +5,7 @@ ghost use Rattle.lines.specs.Number.{is_digit, number_from, numeral, number_in, 
 ghost use Rattle.lines.specs.Told.{ReadAs, EndsAt, NumeralAs};
 
 // The number in a line and the place of the next line, or that the line is faulty.
-#[derive(Drop)]
+#[derive(Clone, Copy)]
 pub enum Value {
     Number(u32, usize),
     Faulty,
@@ -72,7 +72,7 @@ fn line_end(input: &[u8], from: usize) -> usize
 }
 
 // The number that bytes are, or that they are none.
-#[derive(Drop)]
+#[derive(Clone, Copy)]
 pub enum Numeral {
     Number(u32),
     Faulty,

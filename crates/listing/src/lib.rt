@@ -16,14 +16,14 @@ use geometry::{Geometry, Plan};
 use slot::Pair;
 
 // The number of pairs written, and 1 exactly if there is no room for two more words after them.
-#[derive(Drop)]
+#[derive(Clone, Copy)]
 pub struct Listed {
     pub pairs: u32,
     pub mark: u32,
 }
 
 // The pair that comes next among four levels, as an entry that is normal exactly if it is held.
-#[derive(Drop)]
+#[derive(Clone, Copy)]
 enum Least {
     Of(Entry),
     Empty,

@@ -24,7 +24,7 @@ use slot::Pid;
 use writer::Source;
 
 // What settling came to: the deepest level merged into, and the pages written.
-#[derive(Drop)]
+#[derive(Clone, Copy)]
 pub struct Settled {
     pub deepest: u32,
     pub pages: u32,

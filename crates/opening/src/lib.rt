@@ -4,7 +4,7 @@ ghost use Rattle.opening.specs.Opening.{Opens, OpensBoth};
 use geometry::{DIRECTORY_WORDS, Geometry};
 
 // What the opening tests come to: the store's geometry, or which test failed first.
-#[derive(Drop)]
+#[derive(Clone, Copy)]
 pub enum Opened {
     Store(Geometry),
     Range,

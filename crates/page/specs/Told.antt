@@ -50,11 +50,11 @@ module _ (w : List ℕ) (place n : ℕ) where
       ap (λ (s : Slot). s ∷ reverse (take j (slots_from w place n))) (slot_of_run j (slot_at w place) h)
 
   -- Stepping back meets a fence where the first slot is one.
-  step_back : (j : ℕ) → j < n → fence_kind (slot_at w (place + 3 * 0)).kind ≡ true →
+  step_back_lem : (j : ℕ) → j < n → fence_kind (slot_at w (place + 3 * 0)).kind ≡ true →
       step_back (reverse (take (suc j) (slots_from w place n))) ≡ follow (fence_back w place j).0
   unfolding step_back fence_back
-  step_back zero h f = rw (last_first 0 h, f, step_back)
-  step_back (suc j) h f = rw (last_first (suc j) h) (met (fence_kind (slot_at w (place + 3 * suc j)).kind) refl (step_back j (omega arith) f))
+  step_back_lem zero h f = rw (last_first 0 h, f, step_back)
+  step_back_lem (suc j) h f = rw (last_first (suc j) h) (met (fence_kind (slot_at w (place + 3 * suc j)).kind) refl (step_back_lem j (omega arith) f))
     where
       met : (b : Bool) → fence_kind (slot_at w (place + 3 * suc j)).kind ≡ b →
           step_back (reverse (take (suc j) (slots_from w place n))) ≡ follow (fence_back w place j).0 →
@@ -114,7 +114,7 @@ module _ (w : List ℕ) (place n : ℕ) (asked : Pair) (order : in_order (slots_
         let here : place + 3 * 0 ≡ place = omega arith in
         tell_from_reach (suc j) e ∙
         rw (last_first w place n j fits)
-        (tell_absent _ _ asked m ∙ rw (← last_first w place n j fits) (step_back w place n j fits (rw here f)))
+        (tell_absent _ _ asked m ∙ rw (← last_first w place n j fits) (step_back_lem w place n j fits (rw here f)))
 
     pub tells_past : (inner : Bool) → all (legal inner 0) (slots_from w place n) ≡ true → met_in (slot_at w (place + 3 * j)) asked ≡ Absent →
         tell asked (slots_from w place n) ≡ nothing

@@ -14,7 +14,7 @@ use laws::{both, either, one_if};
 use slot::{Kind, Pair, Pid, Slot, SlotNo, comes_before, rank_of, read_slot, same_pair};
 
 // What a pass over slots has found so far, asked for a pair.
-#[derive(Drop)]
+#[derive(Clone, Copy)]
 pub struct Scan {
     // The last slot's rank, and whether it was a fence.
     pub last: u64,
@@ -29,7 +29,7 @@ pub struct Scan {
 }
 
 // What the slot at a place says of a pair: no index entry of it, or whether its entry is normal.
-#[derive(Drop)]
+#[derive(Clone, Copy)]
 pub enum Met {
     Absent,
     Entry(bool),

@@ -23,9 +23,9 @@ last_digit : (most n : ℕ) → n < 10 → last_digits (suc most) n ≡ digit_co
 unfolding last_digits
 last_digit most n h = rw (lt-ltb n 10 h, last_digits)
 
-last_digits : (most n : ℕ) → 10 ≤ n → last_digits (suc most) n ≡ last_digits most (n / 10) ++ digit_code (n % 10) ∷ []
+last_digits_lem : (most n : ℕ) → 10 ≤ n → last_digits (suc most) n ≡ last_digits most (n / 10) ++ digit_code (n % 10) ∷ []
 unfolding last_digits
-last_digits most n h = rw (le-ltb n 10 h, last_digits)
+last_digits_lem most n h = rw (le-ltb n 10 h, last_digits)
 
 -- It does not matter how many more digits are allowed than a number can have.
 digits_enough : (a b n : ℕ) → n < a → n < b → last_digits a n ≡ last_digits b n
@@ -38,7 +38,7 @@ digits_enough (suc a) (suc b) n h k = picked (ltb n 10) refl (digits_enough a b 
     picked true e ih = last_digit a n (ltb-true n 10 e) ∙ sym (last_digit b n (ltb-true n 10 e))
     picked false e ih =
         let tens : 10 ≤ n = ltb-false n 10 e in
-        rw (last_digits a n tens, last_digits b n tens, ih (omega arith) (omega arith))
+        rw (last_digits_lem a n tens, last_digits_lem b n tens, ih (omega arith) (omega arith))
 
 -- A number below ten is one digit; any other is a tenth of it, and then its last digit.
 pub decimal_digit : (n : ℕ) → n < 10 → decimal n ≡ digit_code n ∷ []
@@ -47,7 +47,7 @@ decimal_digit n h = last_digit n n h
 
 pub decimal_more : (n : ℕ) → 10 ≤ n → decimal n ≡ decimal (n / 10) ++ digit_code (n % 10) ∷ []
 unfolding decimal
-decimal_more n h = rw (last_digits n n h, digits_enough n (suc (n / 10)) (n / 10) (omega arith) (omega arith))
+decimal_more n h = rw (last_digits_lem n n h, digits_enough n (suc (n / 10)) (n / 10) (omega arith) (omega arith))
 
 pub length_digit : (n : ℕ) → n < 10 → length (decimal n) ≡ 1
 length_digit n h = ap length (decimal_digit n h)

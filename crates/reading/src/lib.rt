@@ -15,21 +15,21 @@ pub const MOST_BYTES: usize = 16384;
 pub const MOST_WORDS: u32 = 4096;
 
 // What a request wants done.
-#[derive(Drop)]
+#[derive(Clone, Copy)]
 pub enum Operation {
     Put,
     Drop,
     Ask,
 }
 
-#[derive(Drop)]
+#[derive(Clone, Copy)]
 pub struct Request {
     pub operation: Operation,
     pub pair: Pair,
 }
 
 // The number of the first faulty line; or the geometry, and the place of the first request.
-#[derive(Drop)]
+#[derive(Clone, Copy)]
 pub enum Judgement {
     Faulty(u32),
     Good(Geometry, usize),
@@ -90,7 +90,7 @@ fn read_geometry(input: &[u8]) -> Judgement
 }
 
 // The number of the first faulty line of the requests, or that there is none.
-#[derive(Drop)]
+#[derive(Clone, Copy)]
 pub enum Requests {
     Faulty(u32),
     Good,
@@ -116,7 +116,7 @@ fn judge_requests(input: &[u8], from: usize) -> Requests
 }
 
 // A request and the place behind its group; or how many lines of the group stand before the faulty one.
-#[derive(Drop)]
+#[derive(Clone, Copy)]
 pub enum Group {
     Faulty(u32),
     Read(Request, usize),
@@ -149,7 +149,7 @@ pub fn read_group(input: &[u8], at: usize) -> Group
 }
 
 // The operation that a line names and the place of the next line, or that it names none.
-#[derive(Drop)]
+#[derive(Clone, Copy)]
 pub enum Named {
     Known(Operation, usize),
     Unknown,

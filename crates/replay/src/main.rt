@@ -93,7 +93,7 @@ fn length_of(op: u32) -> usize
 }
 
 // Where a store's runs end in the script, and how many words they filled.
-#[derive(Drop)]
+#[derive(Clone, Copy)]
 pub struct Loaded {
     pub next: usize,
     pub words: usize,

@@ -6,7 +6,7 @@ use crate::Sequence;
 use crate::draws::draw;
 
 // A word's place drawn, with the state of the congruence after it.
-#[derive(Drop)]
+#[derive(Clone, Copy)]
 pub struct Place {
     pub at: usize,
     pub x: u32,

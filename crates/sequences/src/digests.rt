@@ -1,7 +1,7 @@
 // A digest of words: FNV-1a of 64 bits over each word's four bytes, lowest first, kept in two halves so that no sum wraps.
 ghost use Rattle.std.specs.Prelude.{◌<◌};
 
-#[derive(Drop)]
+#[derive(Clone, Copy)]
 pub struct Digest {
     pub high: u32,
     pub low: u32,

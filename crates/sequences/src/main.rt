@@ -20,7 +20,7 @@ use lines::{digest_line, title_line};
 use script::word_at;
 
 // A sequence to make. M and the words before level 1 follow from the geometry.
-#[derive(Drop)]
+#[derive(Clone, Copy)]
 pub struct Sequence {
     pub geometry: Geometry,
     pub most: u32,
@@ -32,7 +32,7 @@ pub struct Sequence {
 }
 
 // A sequence between two calls: the number drawn last, the mode, the digest of replies.
-#[derive(Drop)]
+#[derive(Clone, Copy)]
 pub struct State {
     pub x: u32,
     pub filling: bool,

@@ -13,7 +13,7 @@ use index::{Asked, Changed};
 use reading::{Operation, Request};
 
 // What the calls made so far come to: the number that the last one told, the pages that all of them wrote, and the index entries in each level.
-#[derive(Drop)]
+#[derive(Clone, Copy)]
 pub struct Progress {
     pub told: u64,
     pub pages: u64,

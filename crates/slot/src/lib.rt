@@ -6,25 +6,25 @@ ghost use Rattle.slot.specs.Tag.{kind_number, kind_of, page_of, tag_of};
 ghost use Rattle.slot.specs.Slot.{slot_at, words_of};
 
 // A page number within a level, pid.
-#[derive(Drop)]
+#[derive(Clone, Copy)]
 pub struct Pid(pub u32);
 
 // A floor, rid.
-#[derive(Drop)]
+#[derive(Clone, Copy)]
 pub struct Rid(pub u32);
 
 // A slot's number within its page or the head.
-#[derive(Drop)]
+#[derive(Clone, Copy)]
 pub struct SlotNo(pub u32);
 
-#[derive(Drop)]
+#[derive(Clone, Copy)]
 pub struct Pair {
     pub badge: u32,
     pub floor: Rid,
 }
 
 // Index entries are normal or filters; fences are external or internal.
-#[derive(Drop)]
+#[derive(Clone, Copy)]
 pub enum Kind {
     Normal,
     Filter,
@@ -33,7 +33,7 @@ pub enum Kind {
 }
 
 // What three words hold. An index entry's page number is 0 in a store that is sound.
-#[derive(Drop)]
+#[derive(Clone, Copy)]
 pub struct Slot {
     pub pair: Pair,
     pub kind: Kind,

@@ -27,7 +27,7 @@ use trail_words::{ENTRY, FILTER, FIRST_LINE, FOLLOWED, LINE_WORDS, NORMAL, PAGE,
 
 // What is seen of a pair in the head or a page: its own entry, the page to follow, nothing, the slot that breaks its form, or that its first
 // slot is no fence at most the pair. The walk knows where it is, and makes a fault of the last two.
-#[derive(Drop)]
+#[derive(Clone, Copy)]
 pub enum Seen {
     Decided(bool),
     Follow(Pid),
@@ -37,21 +37,21 @@ pub enum Seen {
 }
 
 // What a page tells of a pair, and how many of its slots are at most it.
-#[derive(Drop)]
+#[derive(Clone, Copy)]
 pub struct Look {
     pub step: Seen,
     pub reach: u32,
 }
 
 // What a walk comes to: held or not with the deciding level, or a fault.
-#[derive(Drop)]
+#[derive(Clone, Copy)]
 pub enum Walked {
     Found(bool, u32),
     Fault(Fault),
 }
 
 // What a walk comes to, and what its pass over the head told.
-#[derive(Drop)]
+#[derive(Clone, Copy)]
 pub struct Survey {
     pub walked: Walked,
     pub head: HeadRead,

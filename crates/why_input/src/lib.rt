@@ -11,7 +11,7 @@ use slot::{Pair, Rid};
 pub const MOST_BYTES: usize = 492352;
 
 // What is wrong with the input: the badge or the floor is no number, the chip is too long or no whole number of words.
-#[derive(Drop)]
+#[derive(Clone, Copy)]
 pub enum Wrong {
     Badge,
     Floor,
@@ -20,7 +20,7 @@ pub enum Wrong {
 }
 
 // The pair asked for, or what is wrong with the input.
-#[derive(Drop)]
+#[derive(Clone, Copy)]
 pub enum Judged {
     Bad(Wrong),
     Good(Pair),

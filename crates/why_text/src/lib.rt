@@ -19,7 +19,7 @@ pub const TEXT_ROOM: usize = why_lines::TEXT_ROOM;
 pub const WORD_ROOM: usize = 123088;
 
 // The length of the text, and whether it tells what is wrong with the input.
-#[derive(Drop)]
+#[derive(Clone, Copy)]
 pub struct Told {
     pub length: usize,
     pub wrong: bool,

@@ -22,7 +22,7 @@ use slot::{Pair, Pid, Slot};
 
 // What a level is written from: the two levels that are joined, the first word and the number of pages of the level below, and whether
 // internal fences go in. The bottom has no pages below and no fences.
-#[derive(Drop)]
+#[derive(Clone, Copy)]
 pub struct Source {
     pub upper: Run,
     pub lower: Run,
@@ -32,7 +32,7 @@ pub struct Source {
 }
 
 // Whose entry comes next of two runs: the upper's, the lower's, or both, where they are of one pair; or no entry is left.
-#[derive(Drop)]
+#[derive(Clone, Copy)]
 enum Turn {
     Upper,
     Lower,

@@ -177,12 +177,12 @@ module _ (w : List ℕ) (row : Row) where
       chosen false false a b = no_fence (fence_of (first_below w row) p) (wanted_fence n n p some b) outer
 
   -- At a slot, the row goes on where it is the wanted one, and where an entry rises.
-  goes_on : (n p c : ℕ) (last : Pair) → n < row.slots → goes_on w row n p c last ≡
+  goes_on_lem : (n p c : ℕ) (last : Pair) → n < row.slots → goes_on w row n p c last ≡
       (is_wanted w row n (next_entry w row n) p (row_slot w row n) &&
       are_stream row.fenced (first_below w row) row.below (n + 1) (passed (row_slot w row n).kind p) (slots_on w row (n + 1)) &&
       rising c last (entries_of (row_slot w row n ∷ slots_on w row (n + 1))))
   unfolding goes_on are_stream
-  goes_on n p c last h =
+  goes_on_lem n p c last h =
       let e = slots_on_first n h in
       let q = rw e at (wanted_seen n p (omega arith) (row_slot w row n)) in
       rw (e, q) refl
@@ -191,7 +191,7 @@ module _ (w : List ℕ) (row : Row) where
       (is_wanted w row n (next_entry w row n) p (row_slot w row n) && goes_on w row (n + 1) (passed (row_slot w row n).kind p) c last)
   unfolding goes_on
   goes_fence n p c last some f =
-      goes_on n p c last some ∙
+      goes_on_lem n p c last some ∙
       rw (entries_fence (row_slot w row n) (slots_on w row (n + 1)) f, goes_on)
       (and_assoc (is_wanted w row n (next_entry w row n) p (row_slot w row n))
       (are_stream row.fenced (first_below w row) row.below (n + 1) (passed (row_slot w row n).kind p) (slots_on w row (n + 1)))
@@ -201,7 +201,7 @@ module _ (w : List ℕ) (row : Row) where
       ((entry_fits w row n p (row_slot w row n) && rises c last (row_slot w row n).pair) && goes_on w row (n + 1) p (c + 1) (row_slot w row n).pair)
   unfolding goes_on rising
   goes_entry n p c last some f =
-      goes_on n p c last some ∙
+      goes_on_lem n p c last some ∙
       rw (
         entry_wanted n p some f,
         passed_entry (row_slot w row n).kind p f,

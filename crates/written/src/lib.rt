@@ -19,7 +19,7 @@ use slot::{Kind, Pair, Pid, Slot, comes_before, kind_number, least_pair, read_sl
 
 // A row of slots: the head's, or those of a level's pages in order. It stands from start on, cut into pages of 21 or not; above the bottom
 // an entry that is first in a page has an internal fence before it. Its fences name the pages of the level below.
-#[derive(Drop)]
+#[derive(Clone, Copy)]
 pub struct Row {
     pub start: usize,
     pub paged: bool,
@@ -30,7 +30,7 @@ pub struct Row {
 }
 
 // Whether a row is its writing, and how many index entries it has if so.
-#[derive(Drop)]
+#[derive(Clone, Copy)]
 pub struct Verdict {
     pub ok: bool,
     pub entries: u32,

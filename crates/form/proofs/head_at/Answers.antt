@@ -1,0 +1,12 @@
+-- `head_at` gives what the head is tested by. Assumes nothing.
+use Rattle.geometry.specs.Lent.{head_room_at}
+use Rattle.geometry.specs.Directory.{place_pages}
+use Rattle.form.specs.Passes.{head_at}
+use borrow.Author.Rules.{rules}
+use Rattle.form.proofs.head_at.Goals as goal
+
+pub returns : goal.returns
+unfolding head_at
+returns c =
+    let a = c.args in
+    rw (c.level_place-below.ensures, place_pages a.g a.store.now 1, head_room_at a.g a.plan a.store.now c.requires)

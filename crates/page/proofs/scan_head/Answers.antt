@@ -1,0 +1,38 @@
+-- `scan_head` gives the pass over a run. The loop's invariant: the pass from here on over what is left is the pass over the whole. Assumes nothing.
+use Prim.Native.Nat.{◌≤◌, ◌-◌}
+use mathlib.Core.Path.{◌≡◌, sym, ◌∙◌}
+use Rattle.rules.specs.Sound.{slots_from}
+use Rattle.page.specs.Scan.{scanned_from, Within, started_within, within_more, scan_begins, scan_step_told, scan_ends, started, scanned}
+use Rattle.page.specs.Tag.{head_tag}
+use borrow.Author.Rules.{rules}
+use native.Mathlib.Omega.{arith}
+use Rattle.page.proofs.scan_head.Goals as goal
+
+pub loop-j-init : goal.loop-j-init
+loop-j-init c =
+    let a = c.args in
+    (omega arith, rw c.scan_start-scan.ensures started_within, rw c.scan_start-scan.ensures (scan_begins a.asked (head_tag a.below a.head) a.words.now a.place a.count))
+
+pub overflow_add-scan : goal.overflow_add-scan
+overflow_add-scan c =
+    let few = c.loop-j.invariant.1.entries_within in
+    omega (arith, few, c.loop-j-test.true, c.requires)
+
+pub scan_step-scan-requires : goal.scan_step-scan-requires
+scan_step-scan-requires c = within_more c.loop-j.j 4096 c.loop-j.scan (omega (arith, c.loop-j-test.true, c.requires)) c.loop-j.invariant.1
+
+pub loop-j-preserved : goal.loop-j-preserved
+unfolding head_tag
+loop-j-preserved c =
+    let a = c.args in
+    let l = c.loop-j in
+    let right = rw (c.is_in_turn.ensures, c.has_room-fits.ensures) at c.both-right.ensures in
+    let next =
+    scan_step_told a.asked (head_tag a.below a.head) a.words.now a.place a.count l.j l.scan c.loop-j-test.true l.invariant.1 l.invariant.2
+    c.read_slot-slot.ensures right c.scan_step-scan.ensures in
+    (omega arith, next.0, next.1)
+
+pub returns : goal.returns
+returns c =
+    let a = c.args in
+    sym (scan_ends a.asked (head_tag a.below a.head) a.words.now a.place a.count c.loop-j.j c.loop-j.scan c.loop-j-test.false) ∙ c.loop-j.invariant.2
