@@ -1,5 +1,7 @@
 // Where a level that is not its own writing is first wrong, and where the head is. Slots are numbered through the pages of a level's room; the
 // head is one page.
+#![tactic(auto)]
+
 ghost use Rattle.std.specs.Prelude.{◌^◌, ◌≤◌, ◌<◌, min, ◌≡◌, true, length, get_or};
 ghost use Rattle.geometry.specs.Lent.{Lent};
 ghost use Rattle.rules.specs.Sound.{directory_right, head_right};

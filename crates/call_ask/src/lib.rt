@@ -1,4 +1,6 @@
 // Ask: may this badge call this floor? Any words may be the store.
+#![tactic(auto)]
+
 ghost use Rattle.std.specs.Prelude.{◌≡◌};
 ghost use Rattle.walk.specs.Walk.{walked};
 ghost use Rattle.opening.specs.Reply.{replied};

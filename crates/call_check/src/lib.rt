@@ -1,4 +1,6 @@
 // Check and list, which test the whole store. Any words may be the store.
+#![tactic(auto)]
+
 ghost use Rattle.std.specs.Prelude.{◌≡◌};
 ghost use Rattle.rules.specs.Listing.{list};
 ghost use Rattle.rules.specs.Sound.{tree_of};

@@ -1,4 +1,6 @@
 // Format: makes the store of the empty set. Any words may be the store, and any numbers the geometry.
+#![tactic(auto)]
+
 ghost use Rattle.std.specs.Prelude.{◌≡◌, [], ◌∷◌};
 ghost use Rattle.opening.specs.Reply.{replied};
 ghost use Rattle.call_format.specs.Format.{formatted_reply, format_reply, format_of};

@@ -1,4 +1,6 @@
 // Put and drop, which change the store. Any words may be the store and the work area.
+#![tactic(auto)]
+
 ghost use Rattle.std.specs.Prelude.{◌≡◌, [], ◌∷◌};
 ghost use Rattle.geometry.specs.Places.{plan_of};
 ghost use Rattle.geometry.specs.Lent.{Lent};

@@ -1,4 +1,6 @@
 // Why may this badge call this floor, or why not? The walk of ask with its trail, on any words.
+#![tactic(auto)]
+
 ghost use Rattle.std.specs.Prelude.{◌≡◌, cond, replicate, set};
 ghost use Rattle.trail_words.specs.Places.{trail_words};
 ghost use Rattle.walk.specs.Lines.{noted};

@@ -1,4 +1,6 @@
 // What an accepted put or drop does: the head is edited, and where it is full then, it is settled.
+#![tactic(auto)]
+
 ghost use Rattle.std.specs.Prelude.{suc, ◌≤◌, ◌≡◌, not, ◌&&◌, leb, eqb, length};
 ghost use Rattle.geometry.specs.Places.{work_words};
 ghost use Rattle.geometry.specs.Lent.{Lent};
@@ -6,7 +8,7 @@ ghost use Rattle.geometry.specs.Geometry.{most_head};
 ghost use Rattle.rules.specs.Sound.{head_slots};
 ghost use Rattle.good.specs.Edit.{live_after};
 ghost use Rattle.form.specs.Passes.{head_scanned};
-ghost use Rattle.edited.specs.Reach.{reach as reachOf};
+ghost use Rattle.edited.specs.Reach.{reach as reach_of};
 ghost use Rattle.entries.specs.Run.{entry as indexed};
 ghost use Rattle.entries.specs.Levels.{PagesWithin};
 ghost use Rattle.change.specs.Change.{toggled_behind, edited_behind, done_on, merged_change, change_of, told};
@@ -89,7 +91,7 @@ fn change_and_settle(
     requires lent { Lent g plan store.old }
     requires work_len { length work.old ≡ work_words g }
     requires accepted_anew { AcceptedAnew g store.old (indexed entry) }
-    requires reach_value { reach ≡ reachOf entry.pair (head_slots g store.old) }
+    requires reach_value { reach ≡ reach_of entry.pair (head_slots g store.old) }
     ensures { told result store.new work.new ≡ merged_change g (indexed entry) store.old work.old }
 {
     match sound::whole_fault(store, g, plan) {

@@ -1,4 +1,6 @@
 // A store's words from bytes, as a chip keeps them: four bytes to a word, the lowest byte first.
+#![tactic(auto)]
+
 ghost use Rattle.std.specs.Prelude.{◌+◌, ◌/◌, ◌≤◌, ◌<◌, ◌≡◌, length};
 ghost use Rattle.std.proofs.lemmas.List.Edits.{sets};
 ghost use Rattle.chip.specs.Bytes.{word_bytes, word_at, words_of};

@@ -1,4 +1,6 @@
 // The index entries of one run in lent words, a level's pages or the head, in turn: from a spot on, and from a pair on.
+#![tactic(auto)]
+
 ghost use Rattle.std.specs.Prelude.{◌+◌, ◌^◌, ◌<◌, ◌≤◌, ◌≡◌, true, ◌∷◌, length, leb};
 ghost use Rattle.rules.specs.Level.{index};
 ghost use Rattle.entries.specs.Run.{Inside, entry as indexed, count_in, place_in};

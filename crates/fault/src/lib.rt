@@ -1,4 +1,6 @@
 // What a test of a store finds. Every call hands a fault on as it is, and only its reply looks into it.
+#![tactic(auto)]
+
 ghost use Rattle.std.specs.Prelude.{◌≡◌};
 ghost use Rattle.fault.specs.Numbers.{number_of};
 

@@ -1,1 +1,2 @@
 // What the whole-store test tells of a store that is not sound, proved: specs/ holds it all.
+#![tactic(auto)]

@@ -1,5 +1,7 @@
 // What put, drop and ask test before they look for a pair: the directory, the head, and the form of a page. A pass over the head or a page
 // also tells how far a pair reaches in it.
+#![tactic(auto)]
+
 ghost use Rattle.std.specs.Prelude.{◌+◌, ◌<◌, ◌≤◌, min, ◌≡◌, cond, length};
 ghost use Rattle.geometry.specs.Geometry.{room};
 ghost use Rattle.geometry.specs.Places.{words_in_slot, words_in_page};

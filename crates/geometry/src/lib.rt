@@ -1,6 +1,8 @@
 // Every number that follows from a geometry alone: capacities, page rooms, and where a store's words stand.
+#![tactic(auto)]
+
 ghost use Rattle.std.specs.Prelude.{◌≤◌, max, ◌≡◌, length, get_or};
-ghost use Rattle.geometry.specs.Geometry.{InRange, in_range, between as Spec·between, within as Spec·within, room_of, capacities as Spec·capacities, rooms as Spec·rooms};
+ghost use Rattle.geometry.specs.Geometry.{InRange, in_range, between, within, room_of, capacities, rooms};
 ghost use Rattle.geometry.specs.Places.{directory_words, plan_of};
 ghost use Rattle.geometry.specs.Bounds.{FourSmall, PlanSmall};
 ghost use Rattle.geometry.specs.Directory.{geometry_of, level_place};
@@ -123,7 +125,7 @@ pub fn in_range(g: Geometry) -> bool
 }
 
 fn between(least: u32, most: u32, n: u32) -> bool
-    ensures { result ≡ Spec·between least most n }
+    ensures { result ≡ between least most n }
 {
     least <= n && n <= most
 }
@@ -153,7 +155,7 @@ pub fn plan_for(g: Geometry) -> Plan
 // cap(i) = H × kⁱ for each level, 0 for a level that does not exist.
 pub fn capacities(g: Geometry) -> [u32; 4]
     requires { InRange g }
-    ensures exact { result ≡ Spec·capacities g }
+    ensures exact { result ≡ capacities g }
     ensures small { FourSmall 32768 result }
 {
     let first = g.head * g.ratio;
@@ -165,7 +167,7 @@ pub fn capacities(g: Geometry) -> [u32; 4]
 // Pg(i) for each level, 0 for the head and for a level that does not exist.
 pub fn rooms(g: Geometry) -> [u32; 4]
     requires { InRange g }
-    ensures exact { result ≡ Spec·rooms g }
+    ensures exact { result ≡ rooms g }
     ensures small { FourSmall 2000 result }
 {
     let capacities = capacities(g);
@@ -193,7 +195,7 @@ fn room_of(g: Geometry, level: u32, capacity: u32, total: u32, below: u32) -> u3
 
 // n where the level exists, else 0.
 fn within(g: Geometry, level: u32, n: u32) -> u32
-    ensures { result ≡ Spec·within g level n }
+    ensures { result ≡ within g level n }
 {
     if level < g.levels { n } else { 0 }
 }

@@ -7,6 +7,8 @@
 //   call_ask     asks whether the store holds a pair
 //   call_why     asks the same, and tells where the walk went
 //   call_check   tests a whole store, and lists the pairs that it holds
+#![tactic(auto)]
+
 pub use call_ask::{AskReply, Asked, ask, ask_reply};
 pub use call_check::{CheckReply, Checked, ListReply, Shown, check, check_reply, list, list_reply};
 pub use call_format::{Formatted, format, format_reply};

@@ -1,4 +1,6 @@
 // Kinds, alternation and live across the levels of a store whose levels ascend.
+#![tactic(auto)]
+
 ghost use Rattle.std.specs.Prelude.{◌+◌, ◌<◌, ◌≡◌, true, [], ◌∷◌, length, eqb};
 ghost use Rattle.std.specs.Bool.{beq};
 ghost use Rattle.fault.specs.declared.Judged.TheVariants.{FaultAt};

@@ -1,5 +1,7 @@
 // The C interface: each call of the index under a C name. The result is the reply's number, and out holds the values that the reply has.
 // include/landing.h is its manual.
+#![tactic(auto)]
+
 ghost use Rattle.std.specs.Prelude.{◌≡◌, [], ◌∷◌};
 ghost use Rattle.geometry.specs.Places.{store_words, work_words};
 ghost use Rattle.opening.specs.Reply.{replied, filled};

@@ -5,3 +5,6 @@ two_clauses f p = f p.0 p.1
 
 pub three_clauses : {A B C D : Type 0} → (A → B → C → D) → A × (B × C) → D
 three_clauses f p = f p.0 p.1.0 p.1.1
+
+pub four_clauses : {A B C D E : Type 0} → (A → B → C → D → E) → A × (B × (C × D)) → E
+four_clauses f p = f p.0 p.1.0 p.1.1.0 p.1.1.1

@@ -1,4 +1,6 @@
 // Tests as values, and, in specs/, laws of tests and lists that speak of nothing of the index.
+#![tactic(auto)]
+
 ghost use Rattle.std.specs.Prelude.{◌≤◌, ◌≡◌, ◌&&◌, ◌||◌, cond};
 
 // Both tests, as a value.

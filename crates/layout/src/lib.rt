@@ -1,5 +1,7 @@
 // What the writing of a level has at a place: the fence of a page below, the internal fence before an entry that would be first in its page,
 // and whether an entry or a fence comes next.
+#![tactic(auto)]
+
 ghost use Rattle.std.specs.Prelude.{◌+◌, ◌-◌, ◌*◌, ◌≤◌, ◌≡◌, length};
 ghost use Rattle.geometry.specs.Places.{words_in_page};
 ghost use Rattle.rules.specs.Level.{internal, fence_of};

@@ -1,5 +1,7 @@
 // Where the words of a level, or of the head, first leave the writing that they should be. Slots are numbered through the pages of the room, and
 // the head is one page. The writing runs as a stream over these numbers: `spot` is where the next own entry stands, `fence` is the next fence.
+#![tactic(auto)]
+
 ghost use Rattle.std.specs.Prelude.{◌+◌, ◌*◌, ◌/◌, ◌≤◌, ◌<◌, ◌≡◌, length};
 ghost use Rattle.geometry.specs.Places.{words_in_page, words_in_slot};
 ghost use Rattle.slot.specs.Slot.{slot_at};

@@ -1,6 +1,8 @@
 // Lines of a text, each ended by byte 10, and the decimal numbers in them.
+#![tactic(auto)]
+
 ghost use Rattle.std.specs.Prelude.{◌≤◌, ◌≡◌, length, drop};
-ghost use Rattle.lines.specs.Lines.{Endless, begins as Spec·begins};
+ghost use Rattle.lines.specs.Lines.{Endless, begins};
 ghost use Rattle.lines.specs.Number.{is_digit, number_from, numeral, number_in, value};
 ghost use Rattle.lines.specs.Told.{ReadAs, EndsAt, NumeralAs};
 
@@ -26,7 +28,7 @@ pub fn read_value(input: &[u8], at: usize, name: &[u8]) -> Value
 // Whether the input has these bytes at a place.
 pub fn begins(input: &[u8], at: usize, bytes: &[u8]) -> bool
     requires { at ≤ length input.now }
-    ensures { result ≡ Spec·begins bytes.now (drop at input.now) }
+    ensures { result ≡ begins bytes.now (drop at input.now) }
 {
     if input.len() - at < bytes.len() {
         return false;

@@ -1,4 +1,6 @@
 // List: the held pairs from a first to a second, by a merge of the levels of a store whose levels ascend.
+#![tactic(auto)]
+
 ghost use Rattle.std.specs.Prelude.{◌+◌, ◌≤◌, ◌≡◌, true, length, set};
 ghost use Rattle.geometry.specs.Lent.{Lent};
 ghost use Rattle.rules.specs.Sound.{tree_of};
@@ -8,7 +10,7 @@ ghost use Rattle.entries.specs.Levels.{AllInside, PagesWithin, tree_in};
 ghost use Rattle.entries.specs.Ascending.{levels_ascend};
 ghost use Rattle.entries.specs.Skip.{skip_all};
 ghost use Rattle.entries.specs.Spot.{upcoming, Standing, upcomings, AllStanding};
-ghost use Rattle.listing.specs.Merge.{lesser as Spec·lesser, lower, least_of, past, past_all};
+ghost use Rattle.listing.specs.Merge.{lesser, lower, least_of, past, past_all};
 ghost use Rattle.listing.specs.Spots.{told, found};
 
 use entries::{Entry, Run, Runs, Spots};
@@ -118,7 +120,7 @@ fn lower_of(words: &[u32], run: Run, spot: u64, below: Least) -> Least
 
 // Of two entries the one whose pair comes first; at one pair the upper one's kind counts.
 fn lesser(above: Entry, below: Entry) -> Entry
-    ensures { indexed result ≡ Spec·lesser (indexed above) (indexed below) }
+    ensures { indexed result ≡ lesser (indexed above) (indexed below) }
 {
     let a = above.pair;
     let b = below.pair;

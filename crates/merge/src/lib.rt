@@ -1,5 +1,7 @@
 // Merge and settle: a level's index entries joined to those of the level below, through the work area, and the levels above rebuilt
 // with fences alone.
+#![tactic(auto)]
+
 ghost use Rattle.std.specs.Prelude.{suc, ◌+◌, ◌-◌, ◌*◌, ◌≤◌, ◌<◌, ◌≡◌, not, ◌&&◌, [], length, get_or, set, take, ltb};
 ghost use Rattle.std.proofs.lemmas.List.Edits.{sets};
 ghost use Rattle.geometry.specs.Geometry.{bottom, room};

@@ -1,4 +1,6 @@
 // The tests that come before all others: the ranges of a stored geometry, and the lengths of store and work area.
+#![tactic(auto)]
+
 ghost use Rattle.opening.specs.Opening.{Opens, OpensBoth};
 
 use geometry::{DIRECTORY_WORDS, Geometry};

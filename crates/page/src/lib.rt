@@ -1,4 +1,6 @@
 // One run of slots in lent words, the head's or a page's: what a pass over it finds, and the fence met stepping back.
+#![tactic(auto)]
+
 ghost use Rattle.std.specs.Prelude.{◌+◌, ◌-◌, ◌*◌, ◌<◌, ◌≤◌, ◌≡◌, true, length};
 ghost use Rattle.slot.specs.Slot.{slot_at};
 ghost use Rattle.rules.specs.Level.{fence_kind};

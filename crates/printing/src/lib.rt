@@ -1,4 +1,6 @@
 // Text put into a lent buffer: bytes, a name with a number in decimal without leading zeros, and a line of these, which byte 10 ends.
+#![tactic(auto)]
+
 ghost use Rattle.std.specs.Prelude.{◌+◌, ◌<◌, ◌≤◌, ◌≡◌, length};
 ghost use Rattle.printing.specs.Decimal.{decimal};
 ghost use Rattle.printing.specs.Printed.{Printed};

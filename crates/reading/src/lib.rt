@@ -1,4 +1,6 @@
 // A sheet read and judged: its geometry, and its requests one after another.
+#![tactic(auto)]
+
 ghost use Rattle.std.specs.Prelude.{◌≤◌, ◌<◌, length};
 ghost use Rattle.lines.specs.Lines.{Endless};
 ghost use Rattle.lines.specs.Told.{ReadAs};

@@ -1,4 +1,6 @@
 // Numbers in a script of bytes, as the programs read them that run what the second program wrote.
+#![tactic(auto)]
+
 ghost use Rattle.std.specs.Prelude.{◌≡◌, ◌<◌};
 ghost use Rattle.script.specs.Word.{word_at};
 

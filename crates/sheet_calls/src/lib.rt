@@ -1,4 +1,6 @@
 // The calls of a sheet, made one by one on a lent store and work area, and what they have come to so far.
+#![tactic(auto)]
+
 ghost use Rattle.std.specs.Prelude.{◌*◌, ◌<◌, ◌≤◌, ◌≡◌, replicate};
 ghost use Rattle.geometry.specs.Geometry.{InRange};
 ghost use Rattle.geometry.specs.Places.{store_words};

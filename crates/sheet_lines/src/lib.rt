@@ -1,4 +1,6 @@
 // The lines that a sheet prints, each put into a lent buffer: of a fault, of a call, and the last lines.
+#![tactic(auto)]
+
 ghost use Rattle.std.specs.Prelude.{◌+◌, ◌≤◌, ◌<◌, length};
 ghost use Rattle.printing.specs.Printed.{Printed};
 ghost use Rattle.printing.specs.Line.{line};

@@ -1,4 +1,6 @@
 // The sheet program, bytes in and bytes out: what a sheet prints.
+#![tactic(auto)]
+
 ghost use Rattle.std.specs.Prelude.{◌≤◌, ◌≡◌, length, replicate};
 ghost use Rattle.geometry.specs.Places.{store_words};
 ghost use Rattle.printing.specs.Printed.{Printed};

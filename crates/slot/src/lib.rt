@@ -1,4 +1,6 @@
 // A slot: a pair, a kind and a page number in three words. A page number, a floor and a slot number are kept apart.
+#![tactic(auto)]
+
 ghost use Rattle.std.specs.Prelude.{◌+◌, ◌*◌, ◌^◌, ◌≤◌, ◌<◌, ◌≡◌, length};
 ghost use Rattle.std.proofs.lemmas.List.Edits.{sets};
 ghost use Rattle.slot.specs.Pair.{rank, least, before, same};

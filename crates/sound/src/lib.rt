@@ -1,5 +1,7 @@
 // The whole-store test: the directory, the head, the form of every page, each level's writing, and kinds and live across levels. The number
 // decides first, so that a page's form is told before any level's writing.
+#![tactic(auto)]
+
 ghost use Rattle.std.specs.Prelude.{suc, ◌+◌, ◌/◌, ◌%◌, ◌<◌, ◌≤◌, ◌≡◌, true, not, [], ◌∷◌, length, eqb};
 ghost use Rattle.laws.specs.Lists.{span};
 ghost use Rattle.fault.specs.Numbers.{fault_in};

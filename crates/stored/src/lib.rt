@@ -1,1 +1,2 @@
 // What stands in a store that is laid out in slots, proved: specs/ holds it all.
+#![tactic(auto)]

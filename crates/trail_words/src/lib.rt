@@ -1,4 +1,5 @@
 // The words of a trail, which tells why a pair is held or not: the values of ask's reply, then a line of words for each of the levels 0 to 3.
+#![tactic(auto)]
 
 // Held, 1 or 0, and the deciding level.
 pub const HELD: usize = 0;

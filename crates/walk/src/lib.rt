@@ -1,4 +1,6 @@
 // What an ask looks at: the directory, the head, and one page of each lower level.
+#![tactic(auto)]
+
 ghost use Rattle.std.specs.Prelude.{◌+◌, ◌-◌, ◌*◌, ◌<◌, ◌≤◌, ◌≡◌, true, length};
 ghost use Rattle.geometry.specs.Geometry.{room};
 ghost use Rattle.geometry.specs.Places.{words_in_slot, plan_of};
@@ -9,7 +11,7 @@ ghost use Rattle.slot.specs.Slot.{slot_at};
 ghost use Rattle.form.specs.Passes.{fence_up_to, head_scanned, page_scanned};
 ghost use Rattle.fault.specs.Numbers.{fault_in};
 ghost use Rattle.fault.specs.declared.Part.TheVariants.{Head, Page};
-ghost use Rattle.walk.specs.declared.Walked.TheVariants.{Fault as Fault-walked};
+ghost use Rattle.walk.specs.declared.Walked.TheVariants.{Fault as WalkedFault};
 ghost use Rattle.walk.specs.Stepping.{seen_in, Shows};
 ghost use Rattle.walk.specs.Step.{StepWithin, above_step, bottom_step, head_step, page_step};
 ghost use Rattle.walk.specs.Walk.{walked, walk_from};
@@ -215,7 +217,7 @@ fn walk_past(
 
 // A fault of a part in a slot of a page of a level.
 fn fault_in(part: Part, level: u32, page: Pid, slot: SlotNo) -> Walked
-    ensures { result ≡ Fault-walked (fault_in part level page.0 slot.0) }
+    ensures { result ≡ WalkedFault (fault_in part level page.0 slot.0) }
 {
     Walked::Fault(Fault {
         part,

@@ -1,4 +1,6 @@
 // The input of the tool that tells why: a badge and a floor as text, and a chip's bytes. Judged, and a line for what is wrong with it.
+#![tactic(auto)]
+
 ghost use Rattle.std.specs.Prelude.{◌≤◌, ◌≡◌, length};
 ghost use Rattle.printing.specs.Printed.{Printed};
 ghost use Rattle.why_input.specs.Input.{wrong_text, wrong_room, judged_input, ShortIfGood};

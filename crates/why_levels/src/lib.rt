@@ -1,4 +1,6 @@
 // The lines of the levels that a walk read, from its trail, put into a lent buffer.
+#![tactic(auto)]
+
 ghost use Rattle.std.specs.Prelude.{◌+◌, ◌≤◌, length};
 ghost use Rattle.trail_words.specs.Places.{trail_levels};
 ghost use Rattle.printing.specs.Printed.{Printed};

@@ -1,4 +1,6 @@
 // The lines that tell why a badge may call a floor or not, each put into a lent buffer.
+#![tactic(auto)]
+
 ghost use Rattle.std.specs.Prelude.{◌+◌, ◌≤◌, ◌≡◌, length};
 ghost use Rattle.printing.specs.Printed.{Printed};
 ghost use Rattle.why_lines.specs.Fault.{fault_text, fault_line, damage_text, page_text, writing_text, across_text, placeless, kind_text};

@@ -1,4 +1,6 @@
 // The tool that tells why, bytes in and bytes out: a badge and a floor as text, and a chip's bytes.
+#![tactic(auto)]
+
 ghost use Rattle.std.specs.Prelude.{◌/◌, ◌≤◌, ◌≡◌, length};
 ghost use Rattle.std.proofs.lemmas.List.Edits.{sets};
 ghost use Rattle.chip.specs.Bytes.{word_bytes, words_of};

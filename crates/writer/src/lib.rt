@@ -1,6 +1,8 @@
 // Writes a level from a stream of entries over the fences below: two levels' index entries joined in order, with a fence for each page of
 // the level below, slot by slot into a lent work area that is never read. A position is counted in two parts: `own`, the entries and
 // internal fences before it, and `fence`, the fences of the level below.
+#![tactic(auto)]
+
 ghost use Rattle.std.specs.Prelude.{◌+◌, ◌*◌, ◌^◌, ◌≤◌, ◌<◌, ◌≡◌, true, [], length};
 ghost use Rattle.slot.specs.Pair.{same};
 ghost use Rattle.entries.specs.Run.{Inside, entry as indexed};

@@ -1,14 +1,16 @@
 // Whether the head and each level are the writing of their own index entries over the pages below. The writing runs as a stream over the
 // row of slots: n is the position in the row, r that of the next own entry, which fences ask for, p the next fence; the last fence's page is
 // p − 1.
+#![tactic(auto)]
+
 ghost use Rattle.std.specs.Prelude.{◌+◌, ◌-◌, ◌*◌, ◌^◌, ◌≤◌, ◌<◌, ◌≡◌, true, ◌&&◌, length};
 ghost use Rattle.rules.specs.Level.{index, internal, fence_of};
 ghost use Rattle.rules.specs.Sound.{slots_from, entries_of};
 ghost use Rattle.written.specs.Written.{level_written, head_written, LevelInside, HeadInside};
 ghost use Rattle.layout.specs.Words.{first_pair, level_run};
-ghost use Rattle.layout.specs.Stream.{same_slot, entry_of, is_index, passed as Spec·passed, entry_next, fenced_at};
-ghost use Rattle.written.specs.Row.{RowInside, Unfenced, row_place, row_slot, row_slots, next_entry, nothing_left, wanted_at, is_wanted, entry_fits, rises as Spec·rises, row_written};
-ghost use Rattle.written.specs.Tested.{filled, last_right, unused as Spec·unused};
+ghost use Rattle.layout.specs.Stream.{same_slot, entry_of, is_index, passed, entry_next, fenced_at};
+ghost use Rattle.written.specs.Row.{RowInside, Unfenced, row_place, row_slot, row_slots, next_entry, nothing_left, wanted_at, is_wanted, entry_fits, rises, row_written};
+ghost use Rattle.written.specs.Tested.{filled, last_right, unused};
 ghost use Rattle.geometry.specs.Places.{words_in_page, words_in_slot};
 
 use geometry::{ERASED, FIRST_SLOT, LevelPlace, PAGE_SLOTS, PAGE_WORDS, SLOT_WORDS};
@@ -101,7 +103,7 @@ pub fn head_written(
 fn row_in_room(words: &[u32], row: Row, used: usize, end: usize) -> Verdict
     requires row_inside { RowInside words.now row }
     requires end_in_bounds { end ≤ length words.now }
-    ensures exact { result.ok ≡ (row_written words.now row && Spec·unused words.now used end) }
+    ensures exact { result.ok ≡ (row_written words.now row && unused words.now used end) }
     ensures counted { result.ok ≡ true → result.entries ≡ length (entries_of (row_slots words.now row)) }
 {
     let verdict = row_written(words, row);
@@ -147,7 +149,7 @@ fn last_right(count: u32, last: u32) -> bool
 // Whether the words from a place to another are all unused.
 fn unused(words: &[u32], from: usize, to: usize) -> bool
     requires { to ≤ length words.now }
-    ensures { result ≡ Spec·unused words.now from to }
+    ensures { result ≡ unused words.now from to }
 {
     let mut all = true;
     let mut i = from;
@@ -351,7 +353,7 @@ fn index_of(entry: Slot) -> Slot
 // The next fence after a slot of this kind.
 fn passed(kind: Kind, p: u32) -> u32
     requires { p + 1 < 2 ^ 32 }
-    ensures { result ≡ Spec·passed kind p }
+    ensures { result ≡ passed kind p }
 {
     match kind {
         Kind::Normal => p,
@@ -363,7 +365,7 @@ fn passed(kind: Kind, p: u32) -> u32
 
 // Whether an entry is above the last of those before it, if there are any.
 pub fn rises(entries: u32, last: Pair, pair: Pair) -> bool
-    ensures { result ≡ Spec·rises entries last pair }
+    ensures { result ≡ rises entries last pair }
 {
     either(entries == 0, comes_before(last, pair))
 }

@@ -24,7 +24,7 @@ entry_at-entry-requires c =
     let pre = c.requires in record {
       inside = pre;
       standing = c.loop-run.invariant.stands;
-      spot_bound = leb-false _ _ (told_no _ _ c.is_ended.ensures c.loop-run-test.true);
+      spot_bound = leb-false _ _ (told_no _ _ c.is_ended.ensures (not_from_false _ c.loop-run-test.true));
     }
 
 pub number_of-requires : goal.number_of-requires
@@ -33,7 +33,7 @@ number_of-requires c =
     let loop = c.loop-run in
     let is-ended = c.is_ended in
     let if1 = c.loop-run-test in
-    number_fits _ _ _ _ pre loop.invariant.stands (leb-false _ _ (told_no _ _ is-ended.ensures if1.true))
+    number_fits _ _ _ _ pre loop.invariant.stands (leb-false _ _ (told_no _ _ is-ended.ensures (not_from_false _ if1.true)))
 
 pub returns-then-not-both : goal.returns-then-not-both
 returns-then-not-both c =
@@ -44,7 +44,7 @@ returns-then-not-both c =
     let is-ended = c.is_ended in
     let if1 = c.loop-run-test in
     let wrong = told_no _ _ (c.both.ensures ∙ ap (λ (b : Bool). ltb loop.passed a.most && b) rises.ensures) (not_from_false _ c.if-not-both.true) in
-    c.number_of.ensures ∙ entry_found _ _ _ _ _ _ loop.invariant _ entry_at.ensures.told _ (leb-false _ _ (told_no _ _ is-ended.ensures if1.true)) wrong
+    c.number_of.ensures ∙ entry_found _ _ _ _ _ _ loop.invariant _ entry_at.ensures.told _ (leb-false _ _ (told_no _ _ is-ended.ensures (not_from_false _ if1.true))) wrong
 
 pub overflow_add-passed : goal.overflow_add-passed
 overflow_add-passed c =
@@ -76,4 +76,4 @@ loop-run-preserved c =
     rising_on _ _ _ _ _ _ loop.invariant _ entry_at.ensures.told right _ _ c.least_pair-in-loop-run.ensures c.skip_to-spot-in-loop-run.ensures.told c.skip_to-spot-in-loop-run.ensures.standing
 
 pub returns : goal.returns
-returns c = rising_ends _ _ _ _ _ _ c.loop-run.invariant _ (told_past _ _ c.is_ended.ensures c.loop-run-test.false)
+returns c = rising_ends _ _ _ _ _ _ c.loop-run.invariant _ (told_past _ _ c.is_ended.ensures (not_from_true _ c.loop-run-test.false))

@@ -11,4 +11,4 @@ use Rattle.call_put.proofs.reply_of.Goals as goal
 pub returns : goal.returns
 returns c =
     let a = c.args in
-    ap (λ (l : List ℕ). replied a.number (a.first ∷ a.second ∷ a.third ∷ l)) (four_words a.t5 (omega arith))
+    ap (λ (l : List ℕ). replied a.number (a.first ∷ a.second ∷ a.third ∷ l)) (four_words a.entries (omega arith))

@@ -22,9 +22,9 @@ pub settle_head-requires : goal.settle_head-requires
 settle_head-requires c =
     let a = c.args in
     let pre = c.requires in
-    let fits : WordsFit a.store.now = λ i. omega (arith, c.slice_known-1.is i) in
+    let fits : WordsFit a.store.now = λ i. omega (arith, c.slice_known-1.given i) in
     let passes : fault a.g a.store.now ≡ Sound = sym c.whole_fault.ensures ∙ c.in-Sound.is in
-    let ready = anew_ready a.g a.plan a.store.now _ a.entry.pair a.entry.normal a.reach pre.lent fits (λ i. omega (arith, c.slice_known-in-Sound-1.is i)) pre.accepted_anew
+    let ready = anew_ready a.g a.plan a.store.now _ a.entry.pair a.entry.normal a.reach pre.lent fits (λ i. omega (arith, c.slice_known-in-Sound-1.given i)) pre.accepted_anew
     pre.reach_value c.edit_head.ensures passes in record {
       lent = ready.0;
       work_len = pre.work_len;
@@ -41,9 +41,9 @@ pub returns-in-Sound : goal.returns-in-Sound
 returns-in-Sound c =
     let a = c.args in
     let pre = c.requires in
-    let fits : WordsFit a.store.now = λ i. omega (arith, c.slice_known-1.is i) in
+    let fits : WordsFit a.store.now = λ i. omega (arith, c.slice_known-1.given i) in
     let passes : fault a.g a.store.now ≡ Sound = sym c.whole_fault.ensures ∙ c.in-Sound.is in
     c.settle_head.ensures ∙
-    anew_settled a.g a.plan a.store.now _ a.entry.pair a.entry.normal a.reach pre.lent fits (λ i. omega (arith, c.slice_known-in-Sound-1.is i)) pre.accepted_anew
+    anew_settled a.g a.plan a.store.now _ a.entry.pair a.entry.normal a.reach pre.lent fits (λ i. omega (arith, c.slice_known-in-Sound-1.given i)) pre.accepted_anew
     pre.reach_value c.edit_head.ensures passes
     a.work.now

@@ -25,10 +25,10 @@ done-requires c =
     let a = c.args in
     let pre = c.requires in
     let s = c.settle-settled in
-    two_clauses (λ v0 v1. record { lent = v0; pages_within = v1 }) (settled_ready a.g a.store.now s.new.store s.result.deepest s.result.pages s.ensures.told a.plan pre.lent s.auto.0 pre.settling)
+    two_clauses (λ v0 v1. record { lent = v0; pages_within = v1 }) (settled_ready a.g a.store.now s.new.store s.result.deepest s.result.pages s.ensures.told a.plan pre.lent s.auto.store pre.settling)
 
 pub returns : goal.returns
 returns c =
     let a = c.args in
     let s = c.settle-settled in
-    settled_told a.g a.store.now s.new.store s.result.deepest s.result.pages s.ensures.told a.work.now s.new.work.0 _ _ _ s.auto.1.0 refl c.erase.ensures c.done.ensures
+    settled_told a.g a.store.now s.new.store s.result.deepest s.result.pages s.ensures.told a.work.now s.new.work _ _ _ s.auto.work refl c.erase.ensures c.done.ensures

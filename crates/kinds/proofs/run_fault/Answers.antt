@@ -11,6 +11,7 @@ use Rattle.kinds.specs.Standing.{Stands, stands_begin, stands_done}
 use Rattle.kinds.specs.Spots.{wrong_here, right_here, fewer_on}
 use Rattle.kinds.specs.Told.{right_told, wrong_told}
 use borrow.Author.Rules.{rules}
+use Rattle.std.proofs.lemmas.Bool.{not_from_false, not_from_true}
 use Rattle.kinds.proofs.run_fault.Goals as goal
 
 pub loop-top-init : goal.loop-top-init
@@ -24,7 +25,7 @@ pub entry_at-entry-requires : goal.entry_at-entry-requires
 entry_at-entry-requires c = record {
       inside = c.requires.inside;
       standing = c.loop-top.invariant.1;
-      spot_bound = leb-false _ _ (told_no _ _ c.is_ended.ensures c.loop-top-test.true);
+      spot_bound = leb-false _ _ (told_no _ _ c.is_ended.ensures (not_from_false _ c.loop-top-test.true));
     }
 
 pub held_at-requires : goal.held_at-requires
@@ -39,7 +40,7 @@ returns-then-agree c =
     let w = a.words.now in
     let spot = c.loop-top.spot in
     let e = c.entry_at-entry in
-    let left = leb-false _ _ (told_no _ _ c.is_ended.ensures c.loop-top-test.true) in
+    let left = leb-false _ _ (told_no _ _ c.is_ended.ensures (not_from_false _ c.loop-top-test.true)) in
     let far = wrong_here w a.top a.lower spot c.loop-top.spots c.spots_from-spots.result
     e.result _ _ c.loop-top.invariant.0 e.ensures.told c.spots_from-spots.ensures.told
     _ _ c.held_at.ensures c.agree.ensures c.if-agree.true in
@@ -67,5 +68,5 @@ pub returns : goal.returns
 returns c =
     let a = c.args in
     let w = a.words.now in
-    let none = none_left w a.top c.loop-top.spot _ c.is_ended.ensures (not-false _ c.loop-top-test.false) in
+    let none = none_left w a.top c.loop-top.spot _ c.is_ended.ensures (not-false _ (not_from_true _ c.loop-top-test.false)) in
     right_told w a.level a.top (tree_in w a.lower) (stands_done _ _ _ (rw none at c.loop-top.invariant.0))

@@ -11,6 +11,7 @@ use Rattle.kinds.specs.Standing.{Stands, stands_begin, stands_done}
 use Rattle.kinds.specs.Spots.{wrong_here, right_here, fewer_on}
 use Rattle.kinds.specs.Told.{right_told, wrong_told}
 use borrow.Author.Rules.{rules}
+use Rattle.std.proofs.lemmas.Bool.{not_from_false, not_from_true}
 use Rattle.kinds.proofs.run_fault.Given as goal
 
 abbrev pub invariant-loop-top : goal.invariant-loop-top

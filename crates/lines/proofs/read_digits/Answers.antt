@@ -27,7 +27,7 @@ overflow_sub-byte c =
 
 pub overflow_add-n : goal.overflow_add-n
 overflow_add-n c =
-    omega (arith, c.loop-j.invariant.word, c.wide.ensures, c.shared_slice_known-1.is c.loop-j.j)
+    omega (arith, c.loop-j.invariant.word, c.wide.ensures, c.shared_slice_known-1.given c.loop-j.j)
 
 pub returns-then-n-gt4294967295 : goal.returns-then-n-gt4294967295
 returns-then-n-gt4294967295 c =

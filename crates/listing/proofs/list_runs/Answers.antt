@@ -17,9 +17,9 @@ loop-pairs-init c = (spots_begin c.args.store.now c.args.runs c.args.first c.arg
 
 pub least_of-next-requires : goal.least_of-next-requires
 least_of-next-requires c = record {
-      all_inside = c.requires.all_inside;
-      all_standing = c.loop-pairs.invariant.1;
-    }
+  all_inside = c.requires.all_inside;
+  all_standing = c.loop-pairs.invariant.1;
+}
 
 pub returns-in_default : goal.returns-in_default
 returns-in_default c =
@@ -33,9 +33,9 @@ returns-then-comes_before c =
 
 pub spots_past-spots-requires : goal.spots_past-spots-requires
 spots_past-spots-requires c = record {
-      all_inside = c.requires.all_inside;
-      all_standing = c.loop-pairs.invariant.1;
-    }
+  all_inside = c.requires.all_inside;
+  all_standing = c.loop-pairs.invariant.1;
+}
 
 pub loop-pairs-smaller-then-entry : goal.loop-pairs-smaller-then-entry
 loop-pairs-smaller-then-entry c = spots_fall c.args.store.now c.args.runs c.args.second c.loop-pairs.pairs c.loop-pairs.spots c.loop-pairs.list _ c.loop-pairs.invariant.0 c.least_of-next.result c.least_of-next.ensures _ c.in-Of.is _ c.comes_before.ensures c.spots_past-spots.result c.spots_past-spots.ensures.told

@@ -40,6 +40,6 @@ returns-in-2 c =
 pub returns-in_default : goal.returns-in_default
 returns-in_default c =
     let told = c.print_line-in_default.ensures in record {
-      printed = level_named c.args.count c.args.level 3 (omega (arith, c.requires.level_bound, c.in_default.rest.0.0.1, c.in_default.rest.0.1, c.in_default.rest.1)) told.printed;
+      printed = level_named c.args.count c.args.level 3 (omega arith) told.printed;
       upper_bound = omega (arith, told.upper_bound);
     }

@@ -3,7 +3,6 @@ use native.Mathlib.Numerals.{add-one}
 use Rattle.geometry.specs.Directory.{level_place}
 use Rattle.written.specs.Inside.{level_places}
 use borrow.Author.Rules.{rules}
-use Rattle.laws.specs.Clauses.{two_clauses}
 use Rattle.sound.proofs.level_verdict.Goals as goal
 
 pub level_written-requires : goal.level_written-requires
@@ -19,4 +18,4 @@ pub returns : goal.returns
 unfolding level_place
 returns c =
     let a = c.args in
-    two_clauses (λ v0 v1. record { exact = v0; counted = v1 }) (rw (c.level_place-own.ensures, c.level_place-below.ensures, add-one a.level) at c.level_written.ensures)
+    rw (c.level_place-own.ensures, c.level_place-below.ensures, add-one a.level) at c.level_written.ensures

@@ -41,8 +41,7 @@ pub returns-in_default : goal.returns-in_default
 returns-in_default c =
     let a = c.args in
     let told = c.across_told.ensures in
-    let other = c.in_default.rest in
-    let text = damage_across a.level a.page a.slot a.number (λ e. omega (arith, other)) (λ e. omega (arith, other)) (λ e. omega (arith, other)) (λ e. omega (arith, other)) in record {
+    let text = damage_across a.level a.page a.slot a.number (omega arith) (omega arith) (omega arith) (omega arith) in record {
       printed = printed_as text told.printed;
       upper_bound = omega (arith, told.upper_bound);
     }

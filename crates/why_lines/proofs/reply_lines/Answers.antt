@@ -29,8 +29,7 @@ returns-in-5 c =
 pub returns-in_default : goal.returns-in_default
 returns-in_default c =
     let told = c.fault_lines.ensures in
-    let other = c.in_default.rest in
-    let text = reply_fault c.args.number c.args.trail.now c.args.pair (λ e. omega (arith, other)) (λ e. omega (arith, other)) (λ e. omega (arith, other)) in record {
+    let text = reply_fault c.args.number c.args.trail.now c.args.pair (omega arith) (omega arith) (omega arith) in record {
       printed = printed_as text told.printed;
       upper_bound = omega (arith, told.upper_bound);
     }

@@ -44,11 +44,10 @@ pub past-upper-requires : goal.past-upper-requires
 past-upper-requires c =
     let asked = c.requires in
     let loop = c.loop-entry in
-    let turn-of = c.turn_of in
-    let enum_told = c.enum_told-1 in record {
+    let turn-of = c.turn_of in record {
       inside = asked.source_inside.upper_inside;
       standing = loop.invariant.ready.upper_stands;
-      spot_bound = upper_there _ _ _ _ _ turn-of.ensures (ap from_upper enum_told.is);
+      spot_bound = upper_there _ _ _ _ _ turn-of.ensures (ap from_upper c.in-Upper.is);
     }
 
 pub put_fences_before-fence-requires : goal.put_fences_before-fence-requires
@@ -64,16 +63,15 @@ pub put_entry-own-requires : goal.put_entry-own-requires
 put_entry-own-requires c =
     let loop = c.loop-entry in
     let turn-of = c.turn_of in
-    let enum_told = c.enum_told-1 in
     let entry_at = c.entry_at-entry in
     let past = c.past-upper in
     let put-fences-before = c.put_fences_before-fence in
     let asked = c.requires in
     let ready = loop.invariant.ready in
-    let first = upper_comes _ _ _ _ _ turn-of.ensures ready enum_told.is _ _ _ entry_at.ensures.told past.ensures in
+    let first = upper_comes _ _ _ _ _ turn-of.ensures ready c.in-Upper.is _ _ _ entry_at.ensures.told past.ensures in
     let fences = put-fences-before.ensures in record {
-      room_for = entry_room _ _ _ _ _ _ _ _ loop.invariant _ _ _ first _ _ fences.0 asked.source_len_bound asked.work_bound (omega arith);
-      fence_bound = omega (arith, fences.1.1, asked.source_inside.below_few);
+      room_for = entry_room _ _ _ _ _ _ _ _ loop.invariant _ _ _ first _ _ fences.told asked.source_len_bound asked.work_bound (omega arith);
+      fence_bound = omega (arith, fences.most, asked.source_inside.below_few);
     }
 
 pub loop-entry-smaller-in-Upper : goal.loop-entry-smaller-in-Upper
@@ -83,16 +81,15 @@ pub loop-entry-preserved-in-Upper : goal.loop-entry-preserved-in-Upper
 loop-entry-preserved-in-Upper c =
     let loop = c.loop-entry in
     let turn-of = c.turn_of in
-    let enum_told = c.enum_told-1 in
     let entry_at = c.entry_at-entry in
     let past = c.past-upper in
     let put-fences-before = c.put_fences_before-fence in
     let put-entry = c.put_entry-own in
     let ready = loop.invariant.ready in
-    let first = upper_comes _ _ _ _ _ turn-of.ensures ready enum_told.is _ _ _ entry_at.ensures.told past.ensures in
+    let first = upper_comes _ _ _ _ _ turn-of.ensures ready c.in-Upper.is _ _ _ entry_at.ensures.told past.ensures in
     let still = upper_past _ _ _ _ ready _ past.ensures in
     let fences = put-fences-before.ensures in
-    going_on _ _ _ _ _ _ _ _ loop.invariant _ _ _ first _ _ fences.0 still fences.1.1 fences.1.0 _ _ put-entry.ensures (omega arith)
+    going_on _ _ _ _ _ _ _ _ loop.invariant _ _ _ first _ _ fences.told still fences.most fences.next _ _ put-entry.ensures (omega arith)
 
 pub entry_at-entry-requires-in-Lower : goal.entry_at-entry-requires-in-Lower
 entry_at-entry-requires-in-Lower c =
@@ -108,11 +105,10 @@ pub past-lower-requires : goal.past-lower-requires
 past-lower-requires c =
     let asked = c.requires in
     let loop = c.loop-entry in
-    let turn-of = c.turn_of in
-    let enum-told2 = c.enum_told-in-Lower-1 in record {
+    let turn-of = c.turn_of in record {
       inside = asked.source_inside.lower_inside;
       standing = loop.invariant.ready.lower_stands;
-      spot_bound = lower_there _ _ _ _ _ turn-of.ensures (ap from_lower enum-told2.is);
+      spot_bound = lower_there _ _ _ _ _ turn-of.ensures (ap from_lower c.in-Lower.is);
     }
 
 pub put_fences_before-fence-requires-in-Lower : goal.put_fences_before-fence-requires-in-Lower
@@ -128,16 +124,15 @@ pub put_entry-own-requires-in-Lower : goal.put_entry-own-requires-in-Lower
 put_entry-own-requires-in-Lower c =
     let loop = c.loop-entry in
     let turn-of = c.turn_of in
-    let enum-told2 = c.enum_told-in-Lower-1 in
     let entry-at2 = c.entry_at-entry-in-Lower in
     let past2 = c.past-lower in
     let put-fences-before2 = c.put_fences_before-fence-in-Lower in
     let asked = c.requires in
     let ready = loop.invariant.ready in
-    let first = lower_comes _ _ _ _ _ turn-of.ensures ready enum-told2.is _ _ _ entry-at2.ensures.told past2.ensures in
+    let first = lower_comes _ _ _ _ _ turn-of.ensures ready c.in-Lower.is _ _ _ entry-at2.ensures.told past2.ensures in
     let fences = put-fences-before2.ensures in record {
-      room_for = entry_room _ _ _ _ _ _ _ _ loop.invariant _ _ _ first _ _ fences.0 asked.source_len_bound asked.work_bound (omega arith);
-      fence_bound = omega (arith, fences.1.1, asked.source_inside.below_few);
+      room_for = entry_room _ _ _ _ _ _ _ _ loop.invariant _ _ _ first _ _ fences.told asked.source_len_bound asked.work_bound (omega arith);
+      fence_bound = omega (arith, fences.most, asked.source_inside.below_few);
     }
 
 pub loop-entry-smaller-in-Lower : goal.loop-entry-smaller-in-Lower
@@ -147,16 +142,15 @@ pub loop-entry-preserved-in-Lower : goal.loop-entry-preserved-in-Lower
 loop-entry-preserved-in-Lower c =
     let loop = c.loop-entry in
     let turn-of = c.turn_of in
-    let enum-told2 = c.enum_told-in-Lower-1 in
     let entry-at2 = c.entry_at-entry-in-Lower in
     let past2 = c.past-lower in
     let put-fences-before2 = c.put_fences_before-fence-in-Lower in
     let put-entry2 = c.put_entry-own-in-Lower in
     let ready = loop.invariant.ready in
-    let first = lower_comes _ _ _ _ _ turn-of.ensures ready enum-told2.is _ _ _ entry-at2.ensures.told past2.ensures in
+    let first = lower_comes _ _ _ _ _ turn-of.ensures ready c.in-Lower.is _ _ _ entry-at2.ensures.told past2.ensures in
     let still = lower_past _ _ _ _ ready _ past2.ensures in
     let fences = put-fences-before2.ensures in
-    going_on _ _ _ _ _ _ _ _ loop.invariant _ _ _ first _ _ fences.0 still fences.1.1 fences.1.0 _ _ put-entry2.ensures (omega arith)
+    going_on _ _ _ _ _ _ _ _ loop.invariant _ _ _ first _ _ fences.told still fences.most fences.next _ _ put-entry2.ensures (omega arith)
 
 pub past-upper-requires-in-Both : goal.past-upper-requires-in-Both
 past-upper-requires-in-Both c =
@@ -172,11 +166,10 @@ pub past-lower-requires-in-Both : goal.past-lower-requires-in-Both
 past-lower-requires-in-Both c =
     let asked = c.requires in
     let loop = c.loop-entry in
-    let turn-of = c.turn_of in
-    let enum-told3 = c.enum_told-in-Both-1 in record {
+    let turn-of = c.turn_of in record {
       inside = asked.source_inside.lower_inside;
       standing = loop.invariant.ready.lower_stands;
-      spot_bound = lower_there _ _ _ _ _ turn-of.ensures (ap from_lower enum-told3.is);
+      spot_bound = lower_there _ _ _ _ _ turn-of.ensures (ap from_lower c.in-Both.is);
     }
 
 pub loop-entry-smaller : goal.loop-entry-smaller
@@ -186,9 +179,8 @@ pub loop-entry-preserved : goal.loop-entry-preserved
 loop-entry-preserved c =
     let loop = c.loop-entry in
     let turn-of = c.turn_of in
-    let enum-told3 = c.enum_told-in-Both-1 in
     let past3 = c.past-upper-in-Both in
-    going_cancels _ _ _ _ _ _ _ _ loop.invariant _ turn-of.ensures enum-told3.is _ _ past3.ensures c.past-lower-in-Both.ensures
+    going_cancels _ _ _ _ _ _ _ _ loop.invariant _ turn-of.ensures c.in-Both.is _ _ past3.ensures c.past-lower-in-Both.ensures
 
 pub put_fences-requires : goal.put_fences-requires
 put_fences-requires c =
@@ -203,6 +195,5 @@ pub returns-in-Neither : goal.returns-in-Neither
 returns-in-Neither c =
     let loop = c.loop-entry in
     let turn-of = c.turn_of in
-    let enum-told4 = c.enum_told-in-Neither-1 in
     let put-fences = c.put_fences in
-    two_clauses (λ v0 v1. record { area = v0; count = v1 }) (going_ends _ _ _ _ _ _ _ _ loop.invariant _ turn-of.ensures enum-told4.is _ _ put-fences.ensures)
+    two_clauses (λ v0 v1. record { area = v0; count = v1 }) (going_ends _ _ _ _ _ _ _ _ loop.invariant _ turn-of.ensures c.in-Neither.is _ _ put-fences.ensures)

@@ -12,9 +12,9 @@ returns-then-nothing_left c = rw (told_yes _ _ c.nothing_left.ensures c.if-nothi
 
 pub wanted-wanted-requires : goal.wanted-wanted-requires
 wanted-wanted-requires c = record {
-      row_inside = c.requires;
-      p_lt_below = something_left c.args.words.now _ _ _ (sym c.nothing_left.ensures ∙ c.if-nothing_left.false);
-    }
+  row_inside = c.requires;
+  p_lt_below = something_left c.args.words.now _ _ _ (sym c.nothing_left.ensures ∙ c.if-nothing_left.false);
+}
 
 pub returns : goal.returns
 unfolding is_wanted

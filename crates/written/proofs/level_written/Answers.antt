@@ -12,9 +12,9 @@ use Rattle.written.proofs.level_written.Goals as goal
 
 pub returns-then-not-pages_filled : goal.returns-then-not-pages_filled
 returns-then-not-pages_filled c = record {
-      exact = sym (level_unfilled _ _ _ _ _ _ _ c.requires (told_no _ _ c.pages_filled.ensures (not_from_false _ c.if-not-pages_filled.true)));
-      counted = λ z. cc;
-    }
+  exact = sym (level_unfilled _ _ _ _ _ _ _ c.requires (told_no _ _ c.pages_filled.ensures (not_from_false _ c.if-not-pages_filled.true)));
+  counted = λ z. cc;
+}
 
 pub overflow_add-row : goal.overflow_add-row
 unfolding last_count count_of

@@ -5,6 +5,6 @@ use Rattle.written.proofs.row_written.Goals as goal
 
 pub bottom_written-requires : goal.bottom_written-requires
 bottom_written-requires c = record {
-      row_inside = c.requires;
-      unfenced = unfenced_told _ _ c.both.ensures c.if-both.true;
-    }
+  row_inside = c.requires;
+  unfenced = unfenced_told _ _ c.both.ensures c.if-both.true;
+}
