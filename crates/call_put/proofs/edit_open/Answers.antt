@@ -18,11 +18,11 @@ walk_survey-survey-requires c =
 
 pub edit_found-requires : goal.edit_found-requires
 edit_found-requires c = record {
-      opens_both = c.requires;
-      plan_value = c.plan_for-plan.ensures.exact;
-      pair_value = sym c.walk_survey-survey.ensures.walks ∙ c.in-Found.is;
-      head_value = c.walk_survey-survey.ensures.reads;
-    }
+  opens_both = c.requires;
+  plan_value = c.plan_for-plan.ensures.exact;
+  pair_value = sym c.walk_survey-survey.ensures.walks ∙ c.in-Found.is;
+  head_value = c.walk_survey-survey.ensures.reads;
+}
 
 pub returns-in-Fault : goal.returns-in-Fault
 returns-in-Fault c =

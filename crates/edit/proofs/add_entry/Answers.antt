@@ -8,9 +8,9 @@ use Rattle.edit.proofs.add_entry.Goals as goal
 pub put_in-requires : goal.put_in-requires
 unfolding index
 put_in-requires c = record {
-      place_le_end = (omega arith, omega arith);
-      page_value = rw c.index_of.ensures;
-    }
+  place_le_end = (omega arith, omega arith);
+  page_value = rw c.index_of.ensures;
+}
 
 pub returns : goal.returns
 unfolding entry_added head_place

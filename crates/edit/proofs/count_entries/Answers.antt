@@ -9,9 +9,9 @@ loop-page-init c = pages_begin _ _
 
 pub count_in_page-count-requires : goal.count_in_page-count-requires
 count_in_page-count-requires c = record {
-      inside = c.requires;
-      page_lt_pages = c.loop-page-test.true;
-    }
+  inside = c.requires;
+  page_lt_pages = c.loop-page-test.true;
+}
 
 pub overflow_add-count : goal.overflow_add-count
 overflow_add-count c =

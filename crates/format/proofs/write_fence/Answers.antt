@@ -8,9 +8,9 @@ use Rattle.format.proofs.write_fence.Goals as goal
 pub write_slot-requires : goal.write_slot-requires
 unfolding external
 write_slot-requires c = record {
-      place_in_bounds = omega arith;
-      page_bound = rw c.first_fence.ensures (omega arith);
-    }
+  place_in_bounds = omega arith;
+  page_bound = rw c.first_fence.ensures (omega arith);
+}
 
 pub returns : goal.returns
 returns c = c.write_slot.ensures ∙ rw c.first_fence.ensures

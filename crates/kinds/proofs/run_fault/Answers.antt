@@ -23,16 +23,16 @@ loop-top-init c =
 
 pub entry_at-entry-requires : goal.entry_at-entry-requires
 entry_at-entry-requires c = record {
-      inside = c.requires.inside;
-      standing = c.loop-top.invariant.1;
-      spot_bound = leb-false _ _ (told_no _ _ c.is_ended.ensures (not_from_false _ c.loop-top-test.true));
-    }
+  inside = c.requires.inside;
+  standing = c.loop-top.invariant.1;
+  spot_bound = leb-false _ _ (told_no _ _ c.is_ended.ensures (not_from_false _ c.loop-top-test.true));
+}
 
 pub held_at-requires : goal.held_at-requires
 held_at-requires c = record {
-      all_inside = c.requires.all_inside;
-      all_standing = c.spots_from-spots.ensures.standing;
-    }
+  all_inside = c.requires.all_inside;
+  all_standing = c.spots_from-spots.ensures.standing;
+}
 
 pub returns-then-agree : goal.returns-then-agree
 returns-then-agree c =

@@ -52,8 +52,8 @@ next_own-requires c =
       within = pre.within;
       standing = pre.standing;
       comes = record {
-          there = leb-false _ _ (sym is-ended.ensures ∙ if1.false);
-          told = entry_at.ensures.told;
-          next = told_past _ _ c.entry_next.ensures (not_from_true _ c.if-not-entry_next.false);
-        };
+        there = leb-false _ _ (sym is-ended.ensures ∙ if1.false);
+        told = entry_at.ensures.told;
+        next = told_past _ _ c.entry_next.ensures (not_from_true _ c.if-not-entry_next.false);
+      };
     }

@@ -22,6 +22,6 @@ copy_in-requires c =
 pub returns : goal.returns
 unfolding level_place
 returns c = record {
-      words = rw (c.copy_in.ensures, c.level_place-own.ensures) refl;
-      pages = refl;
-    }
+  words = rw (c.copy_in.ensures, c.level_place-own.ensures) refl;
+  pages = refl;
+}

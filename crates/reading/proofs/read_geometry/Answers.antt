@@ -10,9 +10,9 @@ returns-in_default c = headless c.args.input.now (rw c.in_default.is at c.read_r
 
 pub read_ranged-requires-2 : goal.read_ranged-requires-2
 read_ranged-requires-2 c = record {
-      at_in_bounds = (rw c.in-Number.is at c.read_ranged.ensures).1.within;
-      endless = search rules;
-    }
+  at_in_bounds = (rw c.in-Number.is at c.read_ranged.ensures).1.within;
+  endless = search rules;
+}
 
 pub returns-in_default-read_ranged : goal.returns-in_default-read_ranged
 returns-in_default-read_ranged c =
@@ -22,9 +22,9 @@ returns-in_default-read_ranged c =
 
 pub read_ranged-requires-3 : goal.read_ranged-requires-3
 read_ranged-requires-3 c = record {
-      at_in_bounds = (rw c.in-Number-read_ranged.is at c.read_ranged-2.ensures).1.within;
-      endless = search rules;
-    }
+  at_in_bounds = (rw c.in-Number-read_ranged.is at c.read_ranged-2.ensures).1.within;
+  endless = search rules;
+}
 
 pub returns-in_default-read_ranged-2 : goal.returns-in_default-read_ranged-2
 returns-in_default-read_ranged-2 c =

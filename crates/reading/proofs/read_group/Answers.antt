@@ -9,9 +9,9 @@ returns-in_default c =
 
 pub read_value-requires : goal.read_value-requires
 read_value-requires c = record {
-      at_in_bounds = (rw c.in-Known.is at c.read_operation.ensures).1.within;
-      endless = search rules;
-    }
+  at_in_bounds = (rw c.in-Known.is at c.read_operation.ensures).1.within;
+  endless = search rules;
+}
 
 pub returns-in_default-read_value : goal.returns-in_default-read_value
 returns-in_default-read_value c =
@@ -21,9 +21,9 @@ returns-in_default-read_value c =
 
 pub read_value-requires-2 : goal.read_value-requires-2
 read_value-requires-2 c = record {
-      at_in_bounds = (rw c.in-Number.is at c.read_value.ensures).1.within;
-      endless = search rules;
-    }
+  at_in_bounds = (rw c.in-Number.is at c.read_value.ensures).1.within;
+  endless = search rules;
+}
 
 pub returns-in_default-read_value-2 : goal.returns-in_default-read_value-2
 returns-in_default-read_value-2 c =

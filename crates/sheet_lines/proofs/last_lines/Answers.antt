@@ -9,9 +9,9 @@ print_line-first-requires c = omega (arith, c.requires.at_in_bounds)
 
 pub level_lines-second-requires : goal.level_lines-second-requires
 level_lines-second-requires c = record {
-      levels_bound = c.requires.levels_bound;
-      at_in_bounds = omega (arith, c.requires.at_in_bounds, c.print_line-first.ensures.upper_bound);
-    }
+  levels_bound = c.requires.levels_bound;
+  at_in_bounds = omega (arith, c.requires.at_in_bounds, c.print_line-first.ensures.upper_bound);
+}
 
 pub print_line-requires : goal.print_line-requires
 print_line-requires c =

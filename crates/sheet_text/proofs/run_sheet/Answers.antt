@@ -6,15 +6,15 @@ use Rattle.sheet_text.proofs.run_sheet.Goals as goal
 
 pub returns-then-out-lt-TEXT_ROOM : goal.returns-then-out-lt-TEXT_ROOM
 returns-then-out-lt-TEXT_ROOM c = record {
-      text = prints_nothing c.args.input.now c.args.out.now (omega (arith, c.if-out-lt-TEXT_ROOM.true));
-      fits = omega arith;
-    }
+  text = prints_nothing c.args.input.now c.args.out.now (omega (arith, c.if-out-lt-TEXT_ROOM.true));
+  fits = omega arith;
+}
 
 pub run_judged-requires : goal.run_judged-requires
 run_judged-requires c = record {
-      ready = rw c.in-Good.is at c.judge.ensures;
-      text_room_in_bounds = omega (arith, c.if-out-lt-TEXT_ROOM.false);
-    }
+  ready = rw c.in-Good.is at c.judge.ensures;
+  text_room_in_bounds = omega (arith, c.if-out-lt-TEXT_ROOM.false);
+}
 
 pub returns-in-Faulty : goal.returns-in-Faulty
 returns-in-Faulty c =

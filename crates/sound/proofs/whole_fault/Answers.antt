@@ -26,9 +26,9 @@ returns-then-not-head c =
 
 pub form_faults-requires : goal.form_faults-requires
 form_faults-requires c = record {
-      lent = c.requires;
-      store_value = told_past _ _ c.directory_right.ensures (not_from_true _ c.if-not-directory_right.false);
-    }
+  lent = c.requires;
+  store_value = told_past _ _ c.directory_right.ensures (not_from_true _ c.if-not-directory_right.false);
+}
 
 pub deeper_fault-requires : goal.deeper_fault-requires
 deeper_fault-requires c =

@@ -9,9 +9,9 @@ use Rattle.why_levels.proofs.level_line.Goals as goal
 pub returns-then-trail-start-eq0 : goal.returns-then-trail-start-eq0
 unfolding line_start
 returns-then-trail-start-eq0 c = record {
-      printed = printed_as (level_unread c.args.trail.now c.args.level c.if-trail-start-eq0.true) printed_none;
-      upper_bound = omega arith;
-    }
+  printed = printed_as (level_unread c.args.trail.now c.args.level c.if-trail-start-eq0.true) printed_none;
+  upper_bound = omega arith;
+}
 
 pub returns : goal.returns
 unfolding line_start

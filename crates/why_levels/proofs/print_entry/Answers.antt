@@ -21,6 +21,6 @@ returns-in-2 c =
 
 pub returns-in_default : goal.returns-in_default
 returns-in_default c = record {
-      printed = printed_as (entry_none c.args.entry (omega arith) (omega arith)) printed_none;
-      upper_bound = omega arith;
-    }
+  printed = printed_as (entry_none c.args.entry (omega arith) (omega arith)) printed_none;
+  upper_bound = omega arith;
+}

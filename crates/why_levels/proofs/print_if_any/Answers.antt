@@ -7,9 +7,9 @@ use Rattle.why_levels.proofs.print_if_any.Goals as goal
 
 pub returns-then-n-eq0 : goal.returns-then-n-eq0
 returns-then-n-eq0 c = record {
-      printed = printed_as (any_none c.args.name.now c.args.n c.if-n-eq0.true) printed_none;
-      upper_bound = omega arith;
-    }
+  printed = printed_as (any_none c.args.name.now c.args.n c.if-n-eq0.true) printed_none;
+  upper_bound = omega arith;
+}
 
 pub returns : goal.returns
 returns c =

@@ -26,9 +26,9 @@ loop-entry-init c =
 
 pub turn_of-requires : goal.turn_of-requires
 turn_of-requires c = record {
-      source_inside = c.requires.source_inside;
-      ready = c.loop-entry.invariant.ready;
-    }
+  source_inside = c.requires.source_inside;
+  ready = c.loop-entry.invariant.ready;
+}
 
 pub entry_at-entry-requires : goal.entry_at-entry-requires
 entry_at-entry-requires c =
