@@ -93,7 +93,7 @@
  *
  *
  * STACK. landing_ask and landing_why take at most 512 bytes below the caller's frame, and every other call at most 2048. This holds for
- * x86-64 as `rt staticlib landing` builds the library. It is not proved. A test holds each call to its bound twice: by the machine code of the
+ * x86-64 as `.ci/library` builds the library. It is not proved. A test holds each call to its bound twice: by the machine code of the
  * library, and by what calls on painted stacks reached. Of these bytes the library takes, the return address of the call included:
  *
  *     landing_put, landing_drop                 1608     in a merge from level 0 down to level 3; without one about half of it

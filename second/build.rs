@@ -11,7 +11,7 @@ fn main() {
     let archive = folder.join("liblanding.a");
     println!("cargo:rerun-if-changed={}", archive.display());
     if !archive.is_file() {
-        panic!("no target/staticlib/liblanding.a: run `rt staticlib landing` first");
+        panic!("no target/staticlib/liblanding.a: run `.ci/library` first");
     }
     println!("cargo:rustc-link-search=native={}", folder.display());
     println!("cargo:rustc-link-lib=static=landing");
