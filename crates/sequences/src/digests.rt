@@ -1,7 +1,7 @@
 // A digest of words: FNV-1a of 64 bits over each word's four bytes, lowest first, kept in two halves so that no sum wraps.
 ghost use Rattle.std.specs.Prelude.{◌<◌};
 
-#[derive(Drop)]
+#[derive(Clone, Copy)]
 pub struct Digest {
     pub high: u32,
     pub low: u32,
@@ -18,10 +18,8 @@ pub fn no_words() -> Digest {
 // A digest with words more.
 pub fn add_words(digest: Digest, words: &[u32]) -> Digest {
     let mut told = digest;
-    let mut i = 0;
-    while i < words.len() {
-        told = add_word(told, words[i]);
-        i += 1;
+    for word in words {
+        told = add_word(told, *word);
     }
     told
 }

@@ -4,14 +4,14 @@ ghost use Rattle.std.specs.Prelude.{◌<◌, ◌≤◌};
 use slot::{Pair, Rid};
 
 // A number drawn, with the state of the congruence after it.
-#[derive(Drop)]
+#[derive(Clone, Copy)]
 pub struct Drawn {
     pub number: u32,
     pub x: u32,
 }
 
 // A pair drawn likewise.
-#[derive(Drop)]
+#[derive(Clone, Copy)]
 pub struct DrawnPair {
     pub pair: Pair,
     pub x: u32,

@@ -1,6 +1,8 @@
 // Makes long sequences of calls and tells them by digests, as the second program does: how numbers are drawn, what is called and what is
 // printed stands at the head of second/src/replay.rs and second/src/digest.rs. Standard input is a list of sequences, each of seven 32-bit
 // numbers, lowest byte first: H, k, l, the seed, the calls, the interval, and after how many calls the store is damaged (0 for never).
+#![tactic(auto)]
+
 ghost use Rattle.std.specs.Prelude.{◌<◌, ◌≤◌, length};
 ghost use Rattle.geometry.specs.Geometry.{InRange};
 ghost use Rattle.sequences.specs.Fit.{Fit, WorkFit, Planned};
@@ -15,12 +17,16 @@ use calls::call;
 use damage::damage_word;
 use digests::{Digest, add_word, no_words};
 use geometry::{Geometry, Plan};
-use libc::STDIN_FILENO;
 use lines::{digest_line, title_line};
 use script::word_at;
+use std::io;
+use std::io::Read;
+
+// The most bytes of the list that are read.
+const MOST_BYTES: u64 = 4096;
 
 // A sequence to make. M and the words before level 1 follow from the geometry.
-#[derive(Drop)]
+#[derive(Clone, Copy)]
 pub struct Sequence {
     pub geometry: Geometry,
     pub most: u32,
@@ -32,49 +38,56 @@ pub struct Sequence {
 }
 
 // A sequence between two calls: the number drawn last, the mode, the digest of replies.
-#[derive(Drop)]
+#[derive(Clone, Copy)]
 pub struct State {
     pub x: u32,
     pub filling: bool,
     pub replies: Digest,
 }
 
-fn main() {
-    let mut input = [0u8; 4096];
-    let got = io::read_full(STDIN_FILENO, &mut input);
-    let mut store = [0u32; 123088];
-    let mut work = [0u32; 99904];
-    make_all(&input[..got], &mut store, &mut work);
+fn main(rt: HostRuntime) -> io::Result<()> {
+    let mut input = Vec::new(rt.alloc());
+    rt.stdin().take(MOST_BYTES).read_to_end(&mut input)?;
+    let mut store = vec![in rt.alloc(); 0u32; 123088]?;
+    let mut work = vec![in rt.alloc(); 0u32; 99904]?;
+    make_all(&rt, &input, &mut store, &mut work)
 }
 
 // Makes each sequence of a list.
-fn make_all(list: &[u8], store: &mut [u32], work: &mut [u32]) {
+fn make_all(rt: &impl Print, list: &[u8], store: &mut [u32], work: &mut [u32]) -> io::Result<()> {
     let mut at = 0;
     while at < list.len() {
-        make(list, at, store, work);
+        make(rt, list, at, store, work)?;
         at += 28;
     }
+    Ok(())
 }
 
 // Makes the sequence at a place of the list, in the first words of the store and of the work area, where they are long enough.
-fn make(list: &[u8], at: usize, store: &mut [u32], work: &mut [u32])
+fn make(
+    rt: &impl Print,
+    list: &[u8],
+    at: usize,
+    store: &mut [u32],
+    work: &mut [u32],
+) -> io::Result<()>
     requires { at < length list.now }
 {
     let g = geometry_at(list, at);
     if !geometry::in_range(g) {
-        return;
+        return Ok(());
     }
     let plan = geometry::plan_for(g);
     let words = plan.store_words as usize;
     let room = plan.work_words as usize;
     if store.len() < words {
-        return;
+        return Ok(());
     }
     if work.len() < room {
-        return;
+        return Ok(());
     }
     let s = sequence_at(list, at, g, plan);
-    run(s, &mut store[0..words], &mut work[0..room]);
+    run(rt, s, &mut store[0..words], &mut work[0..room])
 }
 
 fn geometry_at(list: &[u8], at: usize) -> Geometry
@@ -105,11 +118,11 @@ fn sequence_at(list: &[u8], at: usize, g: Geometry, plan: Plan) -> Sequence
 }
 
 // Makes a sequence's calls.
-fn run(s: Sequence, store: &mut [u32], work: &mut [u32])
+fn run(rt: &impl Print, s: Sequence, store: &mut [u32], work: &mut [u32]) -> io::Result<()>
     requires fit { Fit s (length store.old) }
     requires work_fit { WorkFit (length work.old) }
 {
-    title_line(s);
+    title_line(rt, s)?;
     let mut state = State {
         x: s.seed,
         filling: true,
@@ -119,12 +132,20 @@ fn run(s: Sequence, store: &mut [u32], work: &mut [u32])
     let mut calls = 0;
     while calls < last {
         calls += 1;
-        state = turn(s, state, calls, store, work);
+        state = turn(rt, s, state, calls, store, work)?;
     }
+    Ok(())
 }
 
 // Makes call number `calls`, with what comes before it, and prints the line after it.
-fn turn(s: Sequence, before: State, calls: u32, store: &mut [u32], work: &mut [u32]) -> State
+fn turn(
+    rt: &impl Print,
+    s: Sequence,
+    before: State,
+    calls: u32,
+    store: &mut [u32],
+    work: &mut [u32],
+) -> io::Result<State>
     requires fit { Fit s (length store.old) }
     requires work_fit { WorkFit (length work.old) }
     requires le_calls { 1 ≤ calls }
@@ -132,9 +153,9 @@ fn turn(s: Sequence, before: State, calls: u32, store: &mut [u32], work: &mut [u
     let ready = prepare(s, before, calls - 1, store, work);
     let after = call(s, ready, store, work);
     if is_told(s, calls) {
-        digest_line(calls, store, work, after);
+        digest_line(rt, calls, store, work, after)?;
     }
-    after
+    Ok(after)
 }
 
 // Whether a line is printed after `calls` calls.
@@ -210,10 +231,8 @@ fn damaged_twice(s: Sequence, state: State, store: &mut [u32]) -> State
 
 // Every word becomes 0.
 fn clear_words(words: &mut [u32]) {
-    let mut i = 0;
-    while i < words.len() {
-        words[i] = 0;
-        i += 1;
+    for word in words.iter_mut() {
+        *word = 0;
     }
 }
 
