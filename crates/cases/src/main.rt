@@ -182,11 +182,9 @@ fn edit_all(
     floor: u32,
 ) -> io::Result<()> {
     let mut pages: u32 = 0;
-    let mut badge = first;
-    while badge < last {
+    for badge in first..last {
         let reply = edit(store, work, op, badge, floor);
         pages = pages.wrapping_add(pages_of(reply));
-        badge += 1;
     }
     let reply = edit(store, work, op, last, floor);
     edits_line(
