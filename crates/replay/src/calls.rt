@@ -113,10 +113,8 @@ fn numbered(first: u32) -> [u32; MOST_WORDS]
     ensures { length result ≡ 4096 }
 {
     let mut words = [first; MOST_WORDS];
-    let mut i = 0;
-    while i < MOST_WORDS {
+    for i in 0..MOST_WORDS {
         words[i] = first + i as u32;
-        i += 1;
     }
     words
 }
@@ -127,10 +125,6 @@ fn copied(lent: &[u32]) -> [u32; MOST_WORDS]
 {
     let n = least(lent.len(), MOST_WORDS);
     let mut words = [0; MOST_WORDS];
-    let mut i = 0;
-    while i < n {
-        words[i] = lent[i];
-        i += 1;
-    }
+    words[..n].copy_from_slice(&lent[..n]);
     words
 }

@@ -47,17 +47,15 @@ fn run_end(before: &[u32], after: &[u32], from: usize, to: usize) -> usize
     ensures { (from ≤ result) × (result ≤ to) }
 {
     let word = after[from];
-    let mut i = from;
-    while i < to {
+    for i in from..to {
         if before[i] == after[i] {
             return i;
         }
         if after[i] != word {
             return i;
         }
-        i += 1;
     }
-    i
+    to
 }
 
 fn print_run(rt: &impl Print, at: usize, word: u32, count: usize) -> io::Result<()> {

@@ -116,8 +116,7 @@ fn load(script: &[u8], at: usize, store: &mut [u32]) -> Loaded
     let runs = word_at(script, at);
     let mut next = at + 4;
     let mut words = 0;
-    let mut i: u32 = 0;
-    while i < runs {
+    for _ in 0..runs {
         words = fill(
             store,
             words,
@@ -125,7 +124,6 @@ fn load(script: &[u8], at: usize, store: &mut [u32]) -> Loaded
             word_at(script, next + 4),
         );
         next += 8;
-        i += 1;
     }
     Loaded { next, words }
 }

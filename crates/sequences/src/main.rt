@@ -128,11 +128,8 @@ fn run(rt: &impl Print, s: Sequence, store: &mut [u32], work: &mut [u32]) -> io:
         filling: true,
         replies: no_words(),
     };
-    let last = s.calls;
-    let mut calls = 0;
-    while calls < last {
-        calls += 1;
-        state = turn(rt, s, state, calls, store, work)?;
+    for made in 0..s.calls {
+        state = turn(rt, s, state, made + 1, store, work)?;
     }
     Ok(())
 }
@@ -240,9 +237,7 @@ fn clear_words(words: &mut [u32]) {
 pub fn number_words(words: &mut [u32], first: u32)
     requires { (length words.old ≤ 1000000) × (first ≤ 1000000) }
 {
-    let mut i = 0;
-    while i < words.len() {
+    for i in 0..words.len() {
         words[i] = first + i as u32;
-        i += 1;
     }
 }
