@@ -12,7 +12,7 @@
 // is 2 now, and that words 12 to 14 are 0.
 #![tactic(auto)]
 
-ghost use Rattle.std.specs.Prelude.{◌+◌, ◌<◌, ◌≤◌, length, vec_capacity, IfOk};
+ghost use Rattle.std.specs.Prelude.{◌+◌, ◌<◌, ◌≤◌, ◌≡◌, length, vec_capacity, vec_len, IfOk};
 
 mod calls;
 mod lines;
@@ -36,9 +36,9 @@ fn main(rt: HostRuntime) -> io::Result<()> {
     replay(&rt, &input, &mut store)
 }
 
-// Room for a script.
+// Room for a script, with no byte in it yet.
 fn room(alloc: Global) -> Result<Vec<u8>, AllocError>
-    ensures { IfOk result (λ v. 1048576 ≤ vec_capacity v) }
+    ensures { IfOk result (λ v. (1048576 ≤ vec_capacity v) × (vec_len v ≡ 0)) }
 {
     Vec::with_capacity(alloc, MOST_BYTES)
 }

@@ -4,7 +4,7 @@
 use std::io;
 use std::io::Read;
 
-// One byte more than the longest sheet that is read.
+// One byte more than a sheet may have.
 const MOST_BYTES: u64 = 16385;
 
 fn main(rt: HostRuntime) -> io::Result<()> {

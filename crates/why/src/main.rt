@@ -1,7 +1,7 @@
 // The tool for the service desk: tells why a badge may call a floor or not, from a chip's bytes on standard input.
 #![tactic(auto)]
 
-ghost use Rattle.std.specs.Prelude.{◌≤◌, length, vec_capacity, IfOk};
+ghost use Rattle.std.specs.Prelude.{◌≤◌, ◌≡◌, length, vec_capacity, vec_len, IfOk};
 
 use std::alloc::{AllocError, Global};
 use std::env::Env;
@@ -45,8 +45,9 @@ fn argument(rt: &impl Env, number: usize, text: &mut [u8]) -> usize
     }
 }
 
+// Room for a chip and one byte more, with no byte in it yet.
 fn chip_room(alloc: Global) -> Result<Vec<u8>, AllocError>
-    ensures { IfOk result (λ v. 492353 ≤ vec_capacity v) }
+    ensures { IfOk result (λ v. (492353 ≤ vec_capacity v) × (vec_len v ≡ 0)) }
 {
     Vec::with_capacity(alloc, CHIP_ROOM)
 }

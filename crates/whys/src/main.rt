@@ -19,12 +19,7 @@ fn main(rt: HostRuntime) -> io::Result<()> {
     run_whys(&rt, &input, &mut words, &mut out)
 }
 
-fn run_whys(
-    rt: &impl Print,
-    inputs: &[u8],
-    words: &mut [u32],
-    out: &mut [u8],
-) -> io::Result<()> {
+fn run_whys(rt: &impl Print, inputs: &[u8], words: &mut [u32], out: &mut [u8]) -> io::Result<()> {
     let mut at = 0;
     let mut number: usize = 0;
     while at + 12 <= inputs.len() {
