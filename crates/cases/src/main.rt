@@ -1,11 +1,13 @@
 // Runs the bench table's eleven cases with the public calls, and prints the replies and figures that the table speaks of. second/src/cases.rs
 // makes the same calls, compares them with the table, and writes the same lines.
+#![tactic(auto)]
+
 ghost use Rattle.std.specs.Prelude.{◌≤◌};
 
 use geometry::{Geometry, HEAD_START, PAGE_COUNTS, PAGE_WORDS, SLOT_WORDS};
 use index::{EditReply, ask_reply, edit_reply, format_reply, list_reply};
-use libc::STDOUT_FILENO;
 use slot::{Kind, Pair, Pid, Rid};
+use std::io;
 
 // A badge or floor above all others.
 const GREATEST: u32 = 4294967295;
@@ -21,132 +23,140 @@ pub enum Op {
     Drop,
 }
 
-fn main() {
+fn main(rt: HostRuntime) -> io::Result<()> {
     let mut store = [0u32; 152];
     let mut work = [0u32; 64];
-    case_1(&mut store, &mut work);
-    case_2(&mut store, &mut work);
-    case_3(&mut store, &mut work);
-    case_4(&mut store, &mut work);
-    case_5(&mut store, &mut work);
+    case_1(&rt, &mut store, &mut work)?;
+    case_2(&rt, &mut store, &mut work)?;
+    case_3(&rt, &mut store, &mut work)?;
+    case_4(&rt, &mut store, &mut work)?;
+    case_5(&rt, &mut store, &mut work)?;
     let mut two_pages = [0u32; 206];
     let mut two_page_work = [0u32; 128];
-    case_6(&mut two_pages, &mut two_page_work);
-    case_7(&mut two_pages, &mut two_page_work);
+    case_6(&rt, &mut two_pages, &mut two_page_work)?;
+    case_7(&rt, &mut two_pages, &mut two_page_work)?;
     let mut inner_fence = [0u32; 752];
     let mut inner_fence_work = [0u32; 512];
-    case_8(&mut inner_fence, &mut inner_fence_work);
-    case_9();
-    case_10(&mut store, &mut work);
-    case_11(&mut two_pages, &mut two_page_work);
+    case_8(&rt, &mut inner_fence, &mut inner_fence_work)?;
+    case_9(&rt)?;
+    case_10(&rt, &mut store, &mut work)?;
+    case_11(&rt, &mut two_pages, &mut two_page_work)
 }
 
 // 4,2,3: put badges 1..4: the fourth merges into level 1, one page.
-fn case_1(store: &mut [u32], work: &mut [u32]) {
-    begin(1, store, 4, 2, 3);
-    edit_all(store, work, Op::Put, 1, 3, 0);
-    edit_all(store, work, Op::Put, 4, 4, 0);
+fn case_1(rt: &impl Print, store: &mut [u32], work: &mut [u32]) -> io::Result<()> {
+    begin(rt, 1, store, 4, 2, 3)?;
+    edit_all(rt, store, work, Op::Put, 1, 3, 0)?;
+    edit_all(rt, store, work, Op::Put, 4, 4, 0)
 }
 
 // Then drop 2: live 3, head 1; put 2: live 4, head 0, no merge.
-fn case_2(store: &mut [u32], work: &mut [u32]) {
-    begin(2, store, 4, 2, 3);
-    edit_all(store, work, Op::Put, 1, 4, 0);
-    edit_all(store, work, Op::Drop, 2, 2, 0);
-    edit_all(store, work, Op::Put, 2, 2, 0);
+fn case_2(rt: &impl Print, store: &mut [u32], work: &mut [u32]) -> io::Result<()> {
+    begin(rt, 2, store, 4, 2, 3)?;
+    edit_all(rt, store, work, Op::Put, 1, 4, 0)?;
+    edit_all(rt, store, work, Op::Drop, 2, 2, 0)?;
+    edit_all(rt, store, work, Op::Put, 2, 2, 0)
 }
 
 // After 1, drop 1..4: live 0, level 1 has 0 entries, one page written.
-fn case_3(store: &mut [u32], work: &mut [u32]) {
-    begin(3, store, 4, 2, 3);
-    edit_all(store, work, Op::Put, 1, 4, 0);
-    edit_all(store, work, Op::Drop, 1, 4, 0);
+fn case_3(rt: &impl Print, store: &mut [u32], work: &mut [u32]) -> io::Result<()> {
+    begin(rt, 3, store, 4, 2, 3)?;
+    edit_all(rt, store, work, Op::Put, 1, 4, 0)?;
+    edit_all(rt, store, work, Op::Drop, 1, 4, 0)
 }
 
 // 4,2,3: put 1..8: pages 4 in all.
-fn case_4(store: &mut [u32], work: &mut [u32]) {
-    begin(4, store, 4, 2, 3);
-    edit_all(store, work, Op::Put, 1, 8, 0);
+fn case_4(rt: &impl Print, store: &mut [u32], work: &mut [u32]) -> io::Result<()> {
+    begin(rt, 4, store, 4, 2, 3)?;
+    edit_all(rt, store, work, Op::Put, 1, 8, 0)
 }
 
 // Put 1..16: pages 8.
-fn case_5(store: &mut [u32], work: &mut [u32]) {
-    begin(5, store, 4, 2, 3);
-    edit_all(store, work, Op::Put, 1, 16, 0);
-    when_full(store, work);
+fn case_5(rt: &impl Print, store: &mut [u32], work: &mut [u32]) -> io::Result<()> {
+    begin(rt, 5, store, 4, 2, 3)?;
+    edit_all(rt, store, work, Op::Put, 1, 16, 0)?;
+    when_full(rt, store, work)
 }
 
 // Put 17: reply 4. Put 16: reply 2. Drop 1, put 17: done.
-fn when_full(store: &mut [u32], work: &mut [u32]) {
-    edit_all(store, work, Op::Put, 17, 17, 0);
-    edit_all(store, work, Op::Put, 16, 16, 0);
-    edit_all(store, work, Op::Drop, 1, 1, 0);
-    edit_all(store, work, Op::Put, 17, 17, 0);
+fn when_full(rt: &impl Print, store: &mut [u32], work: &mut [u32]) -> io::Result<()> {
+    edit_all(rt, store, work, Op::Put, 17, 17, 0)?;
+    edit_all(rt, store, work, Op::Put, 16, 16, 0)?;
+    edit_all(rt, store, work, Op::Drop, 1, 1, 0)?;
+    edit_all(rt, store, work, Op::Put, 17, 17, 0)
 }
 
 // 21,2,2: put 1..42: pages 1, then 2; head fences (0,0) to page 0 and (22,0) to page 1.
-fn case_6(store: &mut [u32], work: &mut [u32]) {
-    begin(6, store, 21, 2, 2);
-    edit_all(store, work, Op::Put, 1, 21, 0);
-    edit_all(store, work, Op::Put, 22, 42, 0);
-    slot_line(b"head slot 0: ", store, HEAD_START);
-    slot_line(b"head slot 1: ", store, HEAD_START + SLOT_WORDS);
+fn case_6(rt: &impl Print, store: &mut [u32], work: &mut [u32]) -> io::Result<()> {
+    begin(rt, 6, store, 21, 2, 2)?;
+    edit_all(rt, store, work, Op::Put, 1, 21, 0)?;
+    edit_all(rt, store, work, Op::Put, 22, 42, 0)?;
+    slot_line(rt, "head slot 0: ", store, HEAD_START)?;
+    slot_line(rt, "head slot 1: ", store, HEAD_START + SLOT_WORDS)
 }
 
 // There, ask 21 reads page 0, ask 22 page 1, ask 43 page 1 and says no: a page is read exactly if damage to its slot count is told.
-fn case_7(store: &mut [u32], work: &mut [u32]) {
-    begin(7, store, 21, 2, 2);
-    edit_all(store, work, Op::Put, 1, 42, 0);
-    ask_pages(store, 21);
-    ask_pages(store, 22);
-    ask_pages(store, 43);
+fn case_7(rt: &impl Print, store: &mut [u32], work: &mut [u32]) -> io::Result<()> {
+    begin(rt, 7, store, 21, 2, 2)?;
+    edit_all(rt, store, work, Op::Put, 1, 42, 0)?;
+    ask_pages(rt, store, 21)?;
+    ask_pages(rt, store, 22)?;
+    ask_pages(rt, store, 43)
 }
 
 // 10,4,3: put 1..30, floor 5: level 1 has two pages; the second opens with internal fence (21,5) to page 0; pages 4.
-fn case_8(store: &mut [u32], work: &mut [u32]) {
-    begin(8, store, 10, 4, 3);
-    edit_all(store, work, Op::Put, 1, 30, 5);
-    number_line(b"level 1 has pages ", word_at(store, PAGE_COUNTS + 1));
+fn case_8(rt: &impl Print, store: &mut [u32], work: &mut [u32]) -> io::Result<()> {
+    begin(rt, 8, store, 10, 4, 3)?;
+    edit_all(rt, store, work, Op::Put, 1, 30, 5)?;
+    number_line(rt, "level 1 has pages ", word_at(store, PAGE_COUNTS + 1))?;
     slot_line(
-        b"level 1 page 1 slot 0: ",
+        rt,
+        "level 1 page 1 slot 0: ",
         store,
         LEVEL_1_OF_10_4_3 + PAGE_WORDS + 1,
-    );
+    )
 }
 
 // A fence to page 300 has tag 1202, and reads back as 300.
-fn case_9() {
-    number_line(b"case ", 9);
+fn case_9(rt: &impl Print) -> io::Result<()> {
+    number_line(rt, "case ", 9)?;
     let tag = slot::tag_of(Kind::External, Pid(300));
-    number_line(b"tag ", tag);
+    number_line(rt, "tag ", tag)?;
     let page = slot::page_of(tag);
-    number_line(b"page ", page.0);
+    number_line(rt, "page ", page.0)
 }
 
 // Fewer than H puts: pages 0. Pair (4294967295, 4294967295) is put, asked and dropped.
-fn case_10(store: &mut [u32], work: &mut [u32]) {
-    begin(10, store, 4, 2, 3);
-    edit_all(store, work, Op::Put, 1, 2, 0);
-    edit_all(store, work, Op::Put, GREATEST, GREATEST, GREATEST);
-    ask_line(store, GREATEST, GREATEST);
-    edit_all(store, work, Op::Drop, GREATEST, GREATEST, GREATEST);
-    ask_line(store, GREATEST, GREATEST);
+fn case_10(rt: &impl Print, store: &mut [u32], work: &mut [u32]) -> io::Result<()> {
+    begin(rt, 10, store, 4, 2, 3)?;
+    edit_all(rt, store, work, Op::Put, 1, 2, 0)?;
+    edit_all(rt, store, work, Op::Put, GREATEST, GREATEST, GREATEST)?;
+    ask_line(rt, store, GREATEST, GREATEST)?;
+    edit_all(rt, store, work, Op::Drop, GREATEST, GREATEST, GREATEST)?;
+    ask_line(rt, store, GREATEST, GREATEST)
 }
 
 // List 1..42 of case 6 into 5 words: two pairs, mark 1, fifth word as before.
-fn case_11(store: &mut [u32], work: &mut [u32]) {
-    begin(11, store, 21, 2, 2);
-    edit_all(store, work, Op::Put, 1, 42, 0);
+fn case_11(rt: &impl Print, store: &mut [u32], work: &mut [u32]) -> io::Result<()> {
+    begin(rt, 11, store, 21, 2, 2)?;
+    edit_all(rt, store, work, Op::Put, 1, 42, 0)?;
     let mut slice = [1000, 1001, 1002, 1003, 1004];
-    list_line(store, 1, 42, &mut slice);
-    print(b"words");
-    print_words(&slice);
-    print(b"\n");
+    list_line(rt, store, 1, 42, &mut slice)?;
+    print(rt, "words")?;
+    print_words(rt, &slice)?;
+    print(rt, "\n")
 }
 
 // The case's number, and the store of the empty set.
-fn begin(case: u32, store: &mut [u32], head: u32, ratio: u32, levels: u32) {
-    number_line(b"case ", case);
+fn begin(
+    rt: &impl Print,
+    case: u32,
+    store: &mut [u32],
+    head: u32,
+    ratio: u32,
+    levels: u32,
+) -> io::Result<()> {
+    number_line(rt, "case ", case)?;
     let reply = format_reply(index::format(
         store,
         Geometry {
@@ -155,40 +165,54 @@ fn begin(case: u32, store: &mut [u32], head: u32, ratio: u32, levels: u32) {
             levels,
         },
     ));
-    print_number(b"format ", head);
-    print_number(b",", ratio);
-    print_number(b",", levels);
-    number_line(b": reply ", reply);
+    print_number(rt, "format ", head)?;
+    print_number(rt, ",", ratio)?;
+    print_number(rt, ",", levels)?;
+    number_line(rt, ": reply ", reply)
 }
 
 // Puts or drops the badges from a first to a last at one floor, and prints the pages written in all and the last reply.
-fn edit_all(store: &mut [u32], work: &mut [u32], op: Op, first: u32, last: u32, floor: u32) {
-    let mut pages = 0;
-    let mut badge = first;
-    while badge < last {
+fn edit_all(
+    rt: &impl Print,
+    store: &mut [u32],
+    work: &mut [u32],
+    op: Op,
+    first: u32,
+    last: u32,
+    floor: u32,
+) -> io::Result<()> {
+    let mut pages: u32 = 0;
+    for badge in first..last {
         let reply = edit(store, work, op, badge, floor);
-        pages = std::num::wrapping_add_u32(pages, pages_of(reply));
-        badge += 1;
+        pages = pages.wrapping_add(pages_of(reply));
     }
     let reply = edit(store, work, op, last, floor);
     edits_line(
+        rt,
         op,
         first,
         last,
         floor,
-        std::num::wrapping_add_u32(pages, pages_of(reply)),
-    );
-    edit_line(reply);
+        pages.wrapping_add(pages_of(reply)),
+    )?;
+    edit_line(rt, reply)
 }
 
-fn edits_line(op: Op, first: u32, last: u32, floor: u32, pages: u32) {
+fn edits_line(
+    rt: &impl Print,
+    op: Op,
+    first: u32,
+    last: u32,
+    floor: u32,
+    pages: u32,
+) -> io::Result<()> {
     match op {
-        Op::Put => print_number(b"put ", first),
-        Op::Drop => print_number(b"drop ", first),
+        Op::Put => print_number(rt, "put ", first)?,
+        Op::Drop => print_number(rt, "drop ", first)?,
     }
-    print_number(b" to ", last);
-    print_number(b" at ", floor);
-    print_number(b" wrote ", pages);
+    print_number(rt, " to ", last)?;
+    print_number(rt, " at ", floor)?;
+    print_number(rt, " wrote ", pages)
 }
 
 fn edit(store: &mut [u32], work: &mut [u32], op: Op, badge: u32, floor: u32) -> EditReply {
@@ -206,89 +230,92 @@ fn pages_of(reply: EditReply) -> u32 {
     reply.values[2]
 }
 
-fn edit_line(reply: EditReply) {
+fn edit_line(rt: &impl Print, reply: EditReply) -> io::Result<()> {
     let values = reply.values;
     if reply.number != 0 {
-        refusal_line(reply.number, values[0], values[1], values[2]);
-        return;
+        return refusal_line(rt, reply.number, values[0], values[1], values[2]);
     }
-    print_number(b": reply 0 live ", values[0]);
-    print_number(b" deepest ", values[1]);
-    print_number(b" pages ", values[2]);
-    print_number(b" entries ", values[3]);
-    print_number(b" ", values[4]);
-    print_number(b" ", values[5]);
-    number_line(b" ", values[6]);
+    print_number(rt, ": reply 0 live ", values[0])?;
+    print_number(rt, " deepest ", values[1])?;
+    print_number(rt, " pages ", values[2])?;
+    print_number(rt, " entries ", values[3])?;
+    print_number(rt, " ", values[4])?;
+    print_number(rt, " ", values[5])?;
+    number_line(rt, " ", values[6])
 }
 
-fn refusal_line(reply: u32, level: u32, page: u32, slot: u32) {
-    print_number(b": reply ", reply);
-    print_number(b" level ", level);
-    print_number(b" page ", page);
-    number_line(b" slot ", slot);
+fn refusal_line(rt: &impl Print, reply: u32, level: u32, page: u32, slot: u32) -> io::Result<()> {
+    print_number(rt, ": reply ", reply)?;
+    print_number(rt, " level ", level)?;
+    print_number(rt, " page ", page)?;
+    number_line(rt, " slot ", slot)
 }
 
 // Asks for a badge with every page as it is, and then with page 0 and with page 1 of level 1 damaged.
-fn ask_pages(store: &mut [u32], badge: u32) {
-    ask_line(store, badge, 0);
-    print(b"page 0 damaged: ");
-    ask_damaged(store, badge, LEVEL_1_OF_21_2_2);
-    print(b"page 1 damaged: ");
-    ask_damaged(store, badge, LEVEL_1_OF_21_2_2 + PAGE_WORDS);
+fn ask_pages(rt: &impl Print, store: &mut [u32], badge: u32) -> io::Result<()> {
+    ask_line(rt, store, badge, 0)?;
+    print(rt, "page 0 damaged: ")?;
+    ask_damaged(rt, store, badge, LEVEL_1_OF_21_2_2)?;
+    print(rt, "page 1 damaged: ")?;
+    ask_damaged(rt, store, badge, LEVEL_1_OF_21_2_2 + PAGE_WORDS)
 }
 
 // Asks for a badge with the slot count at a place above 21, and mends it again.
-fn ask_damaged(store: &mut [u32], badge: u32, place: usize) {
+fn ask_damaged(rt: &impl Print, store: &mut [u32], badge: u32, place: usize) -> io::Result<()> {
     if store.len() <= place {
-        return;
+        return Ok(());
     }
     let count = store[place];
     store[place] = 22;
-    ask_line(store, badge, 0);
+    let told = ask_line(rt, store, badge, 0);
     store[place] = count;
+    told
 }
 
-fn ask_line(store: &[u32], badge: u32, floor: u32) {
-    print_number(b"ask ", badge);
-    print_number(b" at ", floor);
+fn ask_line(rt: &impl Print, store: &[u32], badge: u32, floor: u32) -> io::Result<()> {
+    print_number(rt, "ask ", badge)?;
+    print_number(rt, " at ", floor)?;
     let reply = ask_reply(index::ask(store, pair(badge, floor)));
     let values = reply.values;
     if reply.number != 0 {
-        refusal_line(reply.number, values[0], values[1], values[2]);
-        return;
+        return refusal_line(rt, reply.number, values[0], values[1], values[2]);
     }
-    print_number(b": reply 0 held ", values[0]);
-    number_line(b" level ", values[1]);
+    print_number(rt, ": reply 0 held ", values[0])?;
+    number_line(rt, " level ", values[1])
 }
 
-fn list_line(store: &[u32], first: u32, last: u32, slice: &mut [u32]) {
-    print_number(b"list ", first);
-    print_number(b" to ", last);
+fn list_line(
+    rt: &impl Print,
+    store: &[u32],
+    first: u32,
+    last: u32,
+    slice: &mut [u32],
+) -> io::Result<()> {
+    print_number(rt, "list ", first)?;
+    print_number(rt, " to ", last)?;
     let reply = list_reply(index::list(store, pair(first, 0), pair(last, 0), slice));
     let values = reply.values;
     if reply.number != 0 {
-        refusal_line(reply.number, values[0], values[1], values[2]);
-        return;
+        return refusal_line(rt, reply.number, values[0], values[1], values[2]);
     }
-    print_number(b": reply 0 pairs ", values[0]);
-    number_line(b" mark ", values[1]);
+    print_number(rt, ": reply 0 pairs ", values[0])?;
+    number_line(rt, " mark ", values[1])
 }
 
-fn print_words(words: &[u32]) {
-    let mut i = 0;
-    while i < words.len() {
-        print_number(b" ", words[i]);
-        i += 1;
+fn print_words(rt: &impl Print, words: &[u32]) -> io::Result<()> {
+    for word in words {
+        print_number(rt, " ", *word)?;
     }
+    Ok(())
 }
 
 // The three words of the slot at a place.
-fn slot_line(name: &[u8], store: &[u32], place: usize)
+fn slot_line(rt: &impl Print, name: &str, store: &[u32], place: usize) -> io::Result<()>
     requires { place ≤ 752 }
 {
-    print_number(name, word_at(store, place));
-    print_number(b" ", word_at(store, place + 1));
-    number_line(b" ", word_at(store, place + 2));
+    print_number(rt, name, word_at(store, place))?;
+    print_number(rt, " ", word_at(store, place + 1))?;
+    number_line(rt, " ", word_at(store, place + 2))
 }
 
 // The word at a place, 0 past the end.
@@ -306,16 +333,15 @@ fn pair(badge: u32, floor: u32) -> Pair {
     }
 }
 
-fn number_line(name: &[u8], n: u32) {
-    print_number(name, n);
-    print(b"\n");
+fn number_line(rt: &impl Print, name: &str, n: u32) -> io::Result<()> {
+    print_number(rt, name, n)?;
+    print(rt, "\n")
 }
 
-fn print_number(name: &[u8], n: u32) {
-    print(name);
-    io::print_decimal(STDOUT_FILENO, n as u64);
+fn print_number(rt: &impl Print, name: &str, n: u32) -> io::Result<()> {
+    print!(rt; "{name}{n}")
 }
 
-fn print(text: &[u8]) {
-    io::write_all(STDOUT_FILENO, text);
+fn print(rt: &impl Print, text: &str) -> io::Result<()> {
+    print!(rt; "{text}")
 }

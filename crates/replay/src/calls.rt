@@ -5,67 +5,91 @@ use crate::least;
 use crate::lines::{end_line, print_changes, print_reply, print_words};
 use geometry::Geometry;
 use index::{EditReply, ask_reply, check_reply, edit_reply, format_reply, list_reply};
-use libc::STDOUT_FILENO;
 use slot::Pair;
+use std::io;
 
 // The words that there are for a work area, for a list and for a copy of the store.
 const MOST_WORDS: usize = 4096;
 
-pub fn ask_line(store: &[u32], pair: Pair) {
+pub fn ask_line(rt: &impl Print, store: &[u32], pair: Pair) -> io::Result<()> {
     let reply = ask_reply(index::ask(store, pair));
     let values = reply.values;
-    print_reply(reply.number, &values);
-    end_line();
+    print_reply(rt, reply.number, &values)?;
+    end_line(rt)
 }
 
 // The line has every word of the trail, also after a refusal.
-pub fn why_line(store: &[u32], pair: Pair) {
+pub fn why_line(rt: &impl Print, store: &[u32], pair: Pair) -> io::Result<()> {
     let mut trail = [0u32; 22];
     let reply = ask_reply(index::why(store, pair, &mut trail));
-    print_reply(reply.number, &trail);
-    end_line();
+    print_reply(rt, reply.number, &trail)?;
+    end_line(rt)
 }
 
-pub fn check_line(store: &[u32]) {
+pub fn check_line(rt: &impl Print, store: &[u32]) -> io::Result<()> {
     let reply = check_reply(index::check(store));
     let values = reply.values;
-    print_reply(reply.number, &values);
-    end_line();
+    print_reply(rt, reply.number, &values)?;
+    end_line(rt)
 }
 
 // Lists into a slice of `words` words, of which word j is 1000 + j.
-pub fn list_line(store: &[u32], first: Pair, second: Pair, words: u32) {
+pub fn list_line(
+    rt: &impl Print,
+    store: &[u32],
+    first: Pair,
+    second: Pair,
+    words: u32,
+) -> io::Result<()> {
     let mut room = numbered(1000);
     let n = least(words as usize, MOST_WORDS);
-    list_into(store, first, second, &mut room[0..n]);
+    list_into(rt, store, first, second, &mut room[0..n])
 }
 
-fn list_into(store: &[u32], first: Pair, second: Pair, slice: &mut [u32]) {
+fn list_into(
+    rt: &impl Print,
+    store: &[u32],
+    first: Pair,
+    second: Pair,
+    slice: &mut [u32],
+) -> io::Result<()> {
     let reply = list_reply(index::list(store, first, second, slice));
     let values = reply.values;
-    print_reply(reply.number, &values);
-    print_words(slice);
-    end_line();
+    print_reply(rt, reply.number, &values)?;
+    print_words(rt, slice)?;
+    end_line(rt)
 }
 
 // Puts or drops a pair, with a work area of `words` words, of which word j is j.
-pub fn edit_line(store: &mut [u32], put: bool, pair: Pair, words: u32) {
+pub fn edit_line(
+    rt: &impl Print,
+    store: &mut [u32],
+    put: bool,
+    pair: Pair,
+    words: u32,
+) -> io::Result<()> {
     let mut room = numbered(0);
     let n = least(words as usize, MOST_WORDS);
-    edit_with(store, &mut room[0..n], put, pair);
+    edit_with(rt, store, &mut room[0..n], put, pair)
 }
 
-fn edit_with(store: &mut [u32], work: &mut [u32], put: bool, pair: Pair) {
+fn edit_with(
+    rt: &impl Print,
+    store: &mut [u32],
+    work: &mut [u32],
+    put: bool,
+    pair: Pair,
+) -> io::Result<()> {
     let before = copied(store);
     let fresh = copied(work);
     let reply = edit(store, work, put, pair);
     let values = reply.values;
-    print_reply(reply.number, &values);
-    io::write_all(STDOUT_FILENO, b" store");
-    print_changes(&before, store);
-    io::write_all(STDOUT_FILENO, b" work");
-    print_changes(&fresh, work);
-    end_line();
+    print_reply(rt, reply.number, &values)?;
+    print!(rt; " store")?;
+    print_changes(rt, &before, store)?;
+    print!(rt; " work")?;
+    print_changes(rt, &fresh, work)?;
+    end_line(rt)
 }
 
 fn edit(store: &mut [u32], work: &mut [u32], put: bool, pair: Pair) -> EditReply {
@@ -75,13 +99,12 @@ fn edit(store: &mut [u32], work: &mut [u32], put: bool, pair: Pair) -> EditReply
     edit_reply(index::drop(store, work, pair))
 }
 
-pub fn format_line(store: &mut [u32], g: Geometry) {
+pub fn format_line(rt: &impl Print, store: &mut [u32], g: Geometry) -> io::Result<()> {
     let before = copied(store);
     let number = format_reply(index::format(store, g));
-    io::print_decimal(STDOUT_FILENO, number as u64);
-    io::write_all(STDOUT_FILENO, b" store");
-    print_changes(&before, store);
-    end_line();
+    print!(rt; "{number} store")?;
+    print_changes(rt, &before, store)?;
+    end_line(rt)
 }
 
 // Word j is `first` + j.
@@ -90,10 +113,8 @@ fn numbered(first: u32) -> [u32; MOST_WORDS]
     ensures { length result ≡ 4096 }
 {
     let mut words = [first; MOST_WORDS];
-    let mut i = 0;
-    while i < MOST_WORDS {
+    for i in 0..MOST_WORDS {
         words[i] = first + i as u32;
-        i += 1;
     }
     words
 }
@@ -104,10 +125,6 @@ fn copied(lent: &[u32]) -> [u32; MOST_WORDS]
 {
     let n = least(lent.len(), MOST_WORDS);
     let mut words = [0; MOST_WORDS];
-    let mut i = 0;
-    while i < n {
-        words[i] = lent[i];
-        i += 1;
-    }
+    words[..n].copy_from_slice(&lent[..n]);
     words
 }

@@ -2,33 +2,31 @@
 ghost use Rattle.std.specs.Prelude.{◌≤◌, ◌<◌, ◌≡◌, length};
 
 use crate::least;
-use libc::STDOUT_FILENO;
+use std::io;
 
 // A reply's number and its values.
-pub fn print_reply(number: u32, values: &[u32]) {
-    io::print_decimal(STDOUT_FILENO, number as u64);
-    print_words(values);
+pub fn print_reply(rt: &impl Print, number: u32, values: &[u32]) -> io::Result<()> {
+    print!(rt; "{number}")?;
+    print_words(rt, values)
 }
 
-pub fn print_words(words: &[u32]) {
-    let mut i = 0;
-    while i < words.len() {
-        print_number(words[i]);
-        i += 1;
+pub fn print_words(rt: &impl Print, words: &[u32]) -> io::Result<()> {
+    for word in words {
+        print_number(rt, *word)?;
     }
+    Ok(())
 }
 
-pub fn print_number(n: u32) {
-    io::write_all(STDOUT_FILENO, b" ");
-    io::print_decimal(STDOUT_FILENO, n as u64);
+pub fn print_number(rt: &impl Print, n: u32) -> io::Result<()> {
+    print!(rt; " {n}")
 }
 
-pub fn end_line() {
-    io::write_all(STDOUT_FILENO, b"\n");
+pub fn end_line(rt: &impl Print) -> io::Result<()> {
+    println!(rt)
 }
 
 // The words that are other than before, a run of one word as ` 12=0*3`.
-pub fn print_changes(before: &[u32], after: &[u32]) {
+pub fn print_changes(rt: &impl Print, before: &[u32], after: &[u32]) -> io::Result<()> {
     let n = least(before.len(), after.len());
     let mut i = 0;
     while i < n {
@@ -36,10 +34,11 @@ pub fn print_changes(before: &[u32], after: &[u32]) {
         if end == i {
             i += 1;
         } else {
-            print_run(i, after[i], end - i);
+            print_run(rt, i, after[i], end - i)?;
             i = end;
         }
     }
+    Ok(())
 }
 
 // Where the words end that are other than before and the same as the one at a place.
@@ -48,26 +47,21 @@ fn run_end(before: &[u32], after: &[u32], from: usize, to: usize) -> usize
     ensures { (from ≤ result) × (result ≤ to) }
 {
     let word = after[from];
-    let mut i = from;
-    while i < to {
+    for i in from..to {
         if before[i] == after[i] {
             return i;
         }
         if after[i] != word {
             return i;
         }
-        i += 1;
     }
-    i
+    to
 }
 
-fn print_run(at: usize, word: u32, count: usize) {
-    io::write_all(STDOUT_FILENO, b" ");
-    io::print_decimal(STDOUT_FILENO, at as u64);
-    io::write_all(STDOUT_FILENO, b"=");
-    io::print_decimal(STDOUT_FILENO, word as u64);
+fn print_run(rt: &impl Print, at: usize, word: u32, count: usize) -> io::Result<()> {
+    print!(rt; " {at}={word}")?;
     if count != 1 {
-        io::write_all(STDOUT_FILENO, b"*");
-        io::print_decimal(STDOUT_FILENO, count as u64);
+        print!(rt; "*{count}")?;
     }
+    Ok(())
 }

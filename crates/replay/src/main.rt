@@ -10,34 +10,41 @@
 // Each call prints a line: the reply's number and its values, after a list the words of the slice, and after a put, a drop or a format the
 // words that it changed, those of the store behind `store` and those of the work area behind `work`. There ` 8=2 12=0*3` says that word 8
 // is 2 now, and that words 12 to 14 are 0.
-ghost use Rattle.std.specs.Prelude.{◌+◌, ◌<◌, ◌≤◌, ◌≡◌, length};
+#![tactic(auto)]
+
+ghost use Rattle.std.specs.Prelude.{◌+◌, ◌<◌, ◌≤◌, ◌≡◌, length, vec_capacity, vec_len, IfOk};
 
 mod calls;
 mod lines;
 
 use calls::{ask_line, check_line, edit_line, format_line, list_line, why_line};
 use geometry::Geometry;
-use libc::STDIN_FILENO;
 use lines::end_line;
 use script::word_at;
 use slot::{Pair, Rid};
+use std::alloc::{AllocError, Global};
+use std::io;
+use std::io::Read;
 
-fn main() {
-    let mut input = room();
-    let got = io::read_full(STDIN_FILENO, &mut input);
+// The most bytes of a script that are read.
+const MOST_BYTES: usize = 1048576;
+
+fn main(rt: HostRuntime) -> io::Result<()> {
+    let mut input = room(rt.alloc())?;
+    rt.stdin().take(MOST_BYTES as u64).read_to_end(&mut input)?;
     let mut store = [0u32; 4096];
-    replay(&input[..got], &mut store);
+    replay(&rt, &input, &mut store)
 }
 
-// Room for a script. The `ensures` keeps main's proof from looking at a list so long.
-fn room() -> [u8; 1048576]
-    ensures { 1048576 ≡ length result }
+// Room for a script, with no byte in it yet.
+fn room(alloc: Global) -> Result<Vec<u8>, AllocError>
+    ensures { IfOk result (λ v. (1048576 ≤ vec_capacity v) × (vec_len v ≡ 0)) }
 {
-    [0; 1048576]
+    Vec::with_capacity(alloc, MOST_BYTES)
 }
 
 // Goes through a script to its end, or to a number that begins nothing.
-fn replay(script: &[u8], store: &mut [u32]) {
+fn replay(rt: &impl Print, script: &[u8], store: &mut [u32]) -> io::Result<()> {
     let mut at = 0;
     let mut words = 0;
     while at < script.len() {
@@ -48,32 +55,34 @@ fn replay(script: &[u8], store: &mut [u32]) {
             words = loaded.words;
         } else {
             let n = least(words, store.len());
-            call(script, at, op, &mut store[0..n]);
+            call(rt, script, at, op, &mut store[0..n])?;
             at += length_of(op);
         }
     }
+    Ok(())
 }
 
 // Makes one call and prints its line.
-fn call(script: &[u8], at: usize, op: u32, store: &mut [u32])
+fn call(rt: &impl Print, script: &[u8], at: usize, op: u32, store: &mut [u32]) -> io::Result<()>
     requires { at < length script.now }
 {
     let pair = pair_at(script, at + 4);
     let words = word_at(script, at + 12);
     match op {
-        2 => ask_line(store, pair),
-        3 => check_line(store),
+        2 => ask_line(rt, store, pair),
+        3 => check_line(rt, store),
         4 => list_line(
+            rt,
             store,
             pair,
             pair_at(script, at + 12),
             word_at(script, at + 20),
         ),
-        5 => edit_line(store, true, pair, words),
-        6 => edit_line(store, false, pair, words),
-        7 => format_line(store, geometry_at(script, at + 4)),
-        8 => why_line(store, pair),
-        _ => end_line(),
+        5 => edit_line(rt, store, true, pair, words),
+        6 => edit_line(rt, store, false, pair, words),
+        7 => format_line(rt, store, geometry_at(script, at + 4)),
+        8 => why_line(rt, store, pair),
+        _ => end_line(rt),
     }
 }
 
@@ -107,8 +116,7 @@ fn load(script: &[u8], at: usize, store: &mut [u32]) -> Loaded
     let runs = word_at(script, at);
     let mut next = at + 4;
     let mut words = 0;
-    let mut i: u32 = 0;
-    while i < runs {
+    for _ in 0..runs {
         words = fill(
             store,
             words,
@@ -116,7 +124,6 @@ fn load(script: &[u8], at: usize, store: &mut [u32]) -> Loaded
             word_at(script, next + 4),
         );
         next += 8;
-        i += 1;
     }
     Loaded { next, words }
 }

@@ -52,8 +52,8 @@ fn draw_place(x: u32, head: u32, words: usize) -> Place
 // What becomes of a word: one of six ways, the fifth a number drawn and the sixth a word near by.
 fn damaged(how: u32, word: u32, some: u32, near: u32) -> u32 {
     match how {
-        0 => std::num::wrapping_add_u32(word, 1),
-        1 => std::num::wrapping_sub_u32(word, 1),
+        0 => word.wrapping_add(1),
+        1 => word.wrapping_sub(1),
         2 => 4294967295,
         3 => 0,
         4 => some,

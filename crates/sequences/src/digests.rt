@@ -18,10 +18,8 @@ pub fn no_words() -> Digest {
 // A digest with words more.
 pub fn add_words(digest: Digest, words: &[u32]) -> Digest {
     let mut told = digest;
-    let mut i = 0;
-    while i < words.len() {
-        told = add_word(told, words[i]);
-        i += 1;
+    for word in words {
+        told = add_word(told, *word);
     }
     told
 }

@@ -3,43 +3,42 @@ ghost use Rattle.std.specs.Prelude.{◌<◌, length};
 
 use crate::digests::{Digest, add_words, no_words};
 use crate::{Sequence, State};
-use libc::STDOUT_FILENO;
+use std::io;
 
-pub fn title_line(s: Sequence) {
+pub fn title_line(rt: &impl Print, s: Sequence) -> io::Result<()> {
     let g = s.geometry;
-    io::write_all(STDOUT_FILENO, b"replay ");
-    io::print_decimal(STDOUT_FILENO, g.head as u64);
-    io::write_all(STDOUT_FILENO, b",");
-    io::print_decimal(STDOUT_FILENO, g.ratio as u64);
-    io::write_all(STDOUT_FILENO, b",");
-    io::print_decimal(STDOUT_FILENO, g.levels as u64);
-    io::write_all(STDOUT_FILENO, b" seed ");
-    io::print_decimal(STDOUT_FILENO, s.seed as u64);
-    io::write_all(STDOUT_FILENO, b"\n");
+    let (head, ratio, levels) = (g.head, g.ratio, g.levels);
+    let seed = s.seed;
+    println!(rt; "replay {head},{ratio},{levels} seed {seed}")
 }
 
-pub fn digest_line(calls: u32, store: &[u32], work: &[u32], state: State)
+pub fn digest_line(
+    rt: &impl Print,
+    calls: u32,
+    store: &[u32],
+    work: &[u32],
+    state: State,
+) -> io::Result<()>
     requires { 3 < length store.now }
 {
     let replies = state.replies;
-    io::write_all(STDOUT_FILENO, b"calls ");
-    io::print_decimal(STDOUT_FILENO, calls as u64);
-    io::write_all(STDOUT_FILENO, b" live ");
-    print_word(store[geometry::LIVE]);
-    io::write_all(STDOUT_FILENO, b" store ");
-    print_digest(add_words(no_words(), store));
-    io::write_all(STDOUT_FILENO, b" work ");
-    print_digest(add_words(no_words(), work));
-    io::write_all(STDOUT_FILENO, b" replies ");
-    print_digest(replies);
-    io::write_all(STDOUT_FILENO, b"\n");
+    print!(rt; "calls {calls} live ")?;
+    print_word(rt, store[geometry::LIVE])?;
+    print!(rt; " store ")?;
+    print_digest(rt, add_words(no_words(), store))?;
+    print!(rt; " work ")?;
+    print_digest(rt, add_words(no_words(), work))?;
+    print!(rt; " replies ")?;
+    print_digest(rt, replies)?;
+    println!(rt)
 }
 
-fn print_word(word: u32) {
-    io::print_decimal(STDOUT_FILENO, word as u64);
+fn print_word(rt: &impl Print, word: u32) -> io::Result<()> {
+    print!(rt; "{word}")
 }
 
-fn print_digest(digest: Digest) {
-    io::print_hex(STDOUT_FILENO, digest.high as u64, 8);
-    io::print_hex(STDOUT_FILENO, digest.low as u64, 8);
+fn print_digest(rt: &impl Print, digest: Digest) -> io::Result<()> {
+    let high = digest.high;
+    let low = digest.low;
+    print!(rt; "{high:08x}{low:08x}")
 }

@@ -1,6 +1,8 @@
 // Makes long sequences of calls and tells them by digests, as the second program does: how numbers are drawn, what is called and what is
 // printed stands at the head of second/src/replay.rs and second/src/digest.rs. Standard input is a list of sequences, each of seven 32-bit
 // numbers, lowest byte first: H, k, l, the seed, the calls, the interval, and after how many calls the store is damaged (0 for never).
+#![tactic(auto)]
+
 ghost use Rattle.std.specs.Prelude.{◌<◌, ◌≤◌, length};
 ghost use Rattle.geometry.specs.Geometry.{InRange};
 ghost use Rattle.sequences.specs.Fit.{Fit, WorkFit, Planned};
@@ -15,9 +17,13 @@ use calls::call;
 use damage::damage_word;
 use digests::{Digest, add_word, no_words};
 use geometry::{Geometry, Plan};
-use libc::STDIN_FILENO;
 use lines::{digest_line, title_line};
 use script::word_at;
+use std::io;
+use std::io::Read;
+
+// The most bytes of the list that are read.
+const MOST_BYTES: u64 = 4096;
 
 // A sequence to make. M and the words before level 1 follow from the geometry.
 #[derive(Clone, Copy)]
@@ -39,42 +45,49 @@ pub struct State {
     pub replies: Digest,
 }
 
-fn main() {
-    let mut input = [0u8; 4096];
-    let got = io::read_full(STDIN_FILENO, &mut input);
-    let mut store = [0u32; 123088];
-    let mut work = [0u32; 99904];
-    make_all(&input[..got], &mut store, &mut work);
+fn main(rt: HostRuntime) -> io::Result<()> {
+    let mut input = Vec::new(rt.alloc());
+    rt.stdin().take(MOST_BYTES).read_to_end(&mut input)?;
+    let mut store = vec![in rt.alloc(); 0u32; 123088]?;
+    let mut work = vec![in rt.alloc(); 0u32; 99904]?;
+    make_all(&rt, &input, &mut store, &mut work)
 }
 
 // Makes each sequence of a list.
-fn make_all(list: &[u8], store: &mut [u32], work: &mut [u32]) {
+fn make_all(rt: &impl Print, list: &[u8], store: &mut [u32], work: &mut [u32]) -> io::Result<()> {
     let mut at = 0;
     while at < list.len() {
-        make(list, at, store, work);
+        make(rt, list, at, store, work)?;
         at += 28;
     }
+    Ok(())
 }
 
 // Makes the sequence at a place of the list, in the first words of the store and of the work area, where they are long enough.
-fn make(list: &[u8], at: usize, store: &mut [u32], work: &mut [u32])
+fn make(
+    rt: &impl Print,
+    list: &[u8],
+    at: usize,
+    store: &mut [u32],
+    work: &mut [u32],
+) -> io::Result<()>
     requires { at < length list.now }
 {
     let g = geometry_at(list, at);
     if !geometry::in_range(g) {
-        return;
+        return Ok(());
     }
     let plan = geometry::plan_for(g);
     let words = plan.store_words as usize;
     let room = plan.work_words as usize;
     if store.len() < words {
-        return;
+        return Ok(());
     }
     if work.len() < room {
-        return;
+        return Ok(());
     }
     let s = sequence_at(list, at, g, plan);
-    run(s, &mut store[0..words], &mut work[0..room]);
+    run(rt, s, &mut store[0..words], &mut work[0..room])
 }
 
 fn geometry_at(list: &[u8], at: usize) -> Geometry
@@ -105,26 +118,31 @@ fn sequence_at(list: &[u8], at: usize, g: Geometry, plan: Plan) -> Sequence
 }
 
 // Makes a sequence's calls.
-fn run(s: Sequence, store: &mut [u32], work: &mut [u32])
+fn run(rt: &impl Print, s: Sequence, store: &mut [u32], work: &mut [u32]) -> io::Result<()>
     requires fit { Fit s (length store.old) }
     requires work_fit { WorkFit (length work.old) }
 {
-    title_line(s);
+    title_line(rt, s)?;
     let mut state = State {
         x: s.seed,
         filling: true,
         replies: no_words(),
     };
-    let last = s.calls;
-    let mut calls = 0;
-    while calls < last {
-        calls += 1;
-        state = turn(s, state, calls, store, work);
+    for made in 0..s.calls {
+        state = turn(rt, s, state, made + 1, store, work)?;
     }
+    Ok(())
 }
 
 // Makes call number `calls`, with what comes before it, and prints the line after it.
-fn turn(s: Sequence, before: State, calls: u32, store: &mut [u32], work: &mut [u32]) -> State
+fn turn(
+    rt: &impl Print,
+    s: Sequence,
+    before: State,
+    calls: u32,
+    store: &mut [u32],
+    work: &mut [u32],
+) -> io::Result<State>
     requires fit { Fit s (length store.old) }
     requires work_fit { WorkFit (length work.old) }
     requires le_calls { 1 ≤ calls }
@@ -132,9 +150,9 @@ fn turn(s: Sequence, before: State, calls: u32, store: &mut [u32], work: &mut [u
     let ready = prepare(s, before, calls - 1, store, work);
     let after = call(s, ready, store, work);
     if is_told(s, calls) {
-        digest_line(calls, store, work, after);
+        digest_line(rt, calls, store, work, after)?;
     }
-    after
+    Ok(after)
 }
 
 // Whether a line is printed after `calls` calls.
@@ -210,10 +228,8 @@ fn damaged_twice(s: Sequence, state: State, store: &mut [u32]) -> State
 
 // Every word becomes 0.
 fn clear_words(words: &mut [u32]) {
-    let mut i = 0;
-    while i < words.len() {
-        words[i] = 0;
-        i += 1;
+    for word in words.iter_mut() {
+        *word = 0;
     }
 }
 
@@ -221,9 +237,7 @@ fn clear_words(words: &mut [u32]) {
 pub fn number_words(words: &mut [u32], first: u32)
     requires { (length words.old ≤ 1000000) × (first ≤ 1000000) }
 {
-    let mut i = 0;
-    while i < words.len() {
+    for i in 0..words.len() {
         words[i] = first + i as u32;
-        i += 1;
     }
 }

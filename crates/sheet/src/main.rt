@@ -1,10 +1,16 @@
 // The sheet program: reads a sheet from standard input and prints its text.
-use libc::{STDIN_FILENO, STDOUT_FILENO};
+#![tactic(auto)]
 
-fn main() {
-    let mut input = [0u8; 16385];
-    let got = io::read_full(STDIN_FILENO, &mut input);
+use std::io;
+use std::io::Read;
+
+// One byte more than a sheet may have.
+const MOST_BYTES: u64 = 16385;
+
+fn main(rt: HostRuntime) -> io::Result<()> {
+    let mut input = Vec::new(rt.alloc());
+    rt.stdin().take(MOST_BYTES).read_to_end(&mut input)?;
     let mut out = [0u8; 16640];
-    let length = sheet_text::run_sheet(&input[..got], &mut out);
-    io::write_all(STDOUT_FILENO, &out[..length]);
+    let length = sheet_text::run_sheet(&input, &mut out);
+    rt.write_all(&out[..length])
 }

@@ -1,39 +1,44 @@
 // Runs many sheets. Standard input is a list of sheets, each behind its length, a 32-bit number with the lowest byte first; of each this
 // prints its number, from 1, and its text.
+#![tactic(auto)]
+
 ghost use Rattle.std.specs.Prelude.{min, ◌≡◌};
 
-use libc::{STDIN_FILENO, STDOUT_FILENO};
 use sheet_text::TEXT_ROOM;
+use std::io;
+use std::io::Read;
 
-fn main() {
-    let mut input = [0u8; 262144];
-    let got = io::read_full(STDIN_FILENO, &mut input);
+// The most bytes of the list that are read.
+const MOST_BYTES: u64 = 262144;
+
+fn main(rt: HostRuntime) -> io::Result<()> {
+    let mut input = Vec::new(rt.alloc());
+    rt.stdin().take(MOST_BYTES).read_to_end(&mut input)?;
     let mut out = [0u8; TEXT_ROOM];
-    run_sheets(&input[..got], &mut out);
+    run_sheets(&rt, &input, &mut out)
 }
 
-fn run_sheets(sheets: &[u8], out: &mut [u8]) {
+fn run_sheets(rt: &impl Print, sheets: &[u8], out: &mut [u8]) -> io::Result<()> {
     let mut at = 0;
     let mut number: usize = 0;
     while at + 4 <= sheets.len() {
         let from = at + 4;
         let to = least(from + script::word_at(sheets, at) as usize, sheets.len());
         number += 1;
-        title_line(number);
-        run_one(&sheets[from..to], out);
+        title_line(rt, number)?;
+        run_one(rt, &sheets[from..to], out)?;
         at = to;
     }
+    Ok(())
 }
 
-fn title_line(number: usize) {
-    io::write_all(STDOUT_FILENO, b"sheet ");
-    io::print_decimal(STDOUT_FILENO, number as u64);
-    io::write_all(STDOUT_FILENO, b"\n");
+fn title_line(rt: &impl Print, number: usize) -> io::Result<()> {
+    println!(rt; "sheet {number}")
 }
 
-fn run_one(sheet: &[u8], out: &mut [u8]) {
+fn run_one(rt: &impl Print, sheet: &[u8], out: &mut [u8]) -> io::Result<()> {
     let length = sheet_text::run_sheet(sheet, out);
-    io::write_all(STDOUT_FILENO, &out[0..length]);
+    rt.write_all(&out[..length])
 }
 
 fn least(a: usize, b: usize) -> usize

@@ -1,34 +1,55 @@
 // The tool for the service desk: tells why a badge may call a floor or not, from a chip's bytes on standard input.
-use libc::{STDERR_FILENO, STDIN_FILENO, STDOUT_FILENO};
+#![tactic(auto)]
 
-fn main() {
+ghost use Rattle.std.specs.Prelude.{◌≤◌, ◌≡◌, length, vec_capacity, vec_len, IfOk};
+
+use std::alloc::{AllocError, Global};
+use std::env::Env;
+use std::io;
+use std::io::Read;
+
+// One byte more than a chip may have.
+const CHIP_ROOM: usize = 492353;
+
+fn main(rt: HostRuntime) -> io::Result<()> {
     let mut badge = [0u8; 16];
-    let badge_length = os::arg(1, &mut badge);
+    let badge_length = argument(&rt, 1, &mut badge);
     let mut floor = [0u8; 16];
-    let floor_length = os::arg(2, &mut floor);
-    let mut chip = chip_room();
-    let got = io::read_full(STDIN_FILENO, &mut chip);
+    let floor_length = argument(&rt, 2, &mut floor);
+    let mut chip = chip_room(rt.alloc())?;
+    rt.stdin().take(CHIP_ROOM as u64).read_to_end(&mut chip)?;
     let mut words = word_room();
     let mut out = [0u8; 512];
     let told = why_text::tell_why(
         &badge[..badge_length],
         &floor[..floor_length],
-        &chip[..got],
+        &chip,
         &mut words,
         &mut out,
     );
     let length = told.length;
-    let to = if told.wrong {
-        STDERR_FILENO
+    if told.wrong {
+        rt.stderr().write_all(&out[..length])
     } else {
-        STDOUT_FILENO
-    };
-    io::write_all(to, &out[..length]);
+        rt.stdout().write_all(&out[..length])
+    }
 }
 
-// One byte more than a chip may have.
-fn chip_room() -> [u8; 492353] {
-    [0; 492353]
+// Puts an argument at the start of the buffer, and gives its length: 0 where there is none, or it is longer than the buffer.
+fn argument(rt: &impl Env, number: usize, text: &mut [u8]) -> usize
+    ensures { result ≤ length text.new }
+{
+    match rt.arg(number, text) {
+        Ok(n) => n,
+        Err(_) => 0,
+    }
+}
+
+// Room for a chip and one byte more, with no byte in it yet.
+fn chip_room(alloc: Global) -> Result<Vec<u8>, AllocError>
+    ensures { IfOk result (λ v. (492353 ≤ vec_capacity v) × (vec_len v ≡ 0)) }
+{
+    Vec::with_capacity(alloc, CHIP_ROOM)
 }
 
 fn word_room() -> [u32; 123088] {

@@ -1,19 +1,25 @@
 // Runs the text of `why` on many inputs. Standard input is a list of inputs: each is three lengths, 32-bit numbers with the lowest byte
 // first, and then the bytes that they count: those of the badge, of the floor and of the chip. Of each input this prints its number, from
 // 1, with `out` or `err` for the stream that its text is for, and then the text.
+#![tactic(auto)]
+
 ghost use Rattle.std.specs.Prelude.{◌≤◌, min, ◌≡◌, length};
 
-use libc::{STDIN_FILENO, STDOUT_FILENO};
+use std::io;
+use std::io::Read;
 
-fn main() {
-    let mut input = [0u8; 262144];
-    let got = io::read_full(STDIN_FILENO, &mut input);
-    let mut words = [0u32; 123088];
+// The most bytes of the list that are read.
+const MOST_BYTES: u64 = 262144;
+
+fn main(rt: HostRuntime) -> io::Result<()> {
+    let mut input = Vec::new(rt.alloc());
+    rt.stdin().take(MOST_BYTES).read_to_end(&mut input)?;
+    let mut words = vec![in rt.alloc(); 0u32; 123088]?;
     let mut out = [0u8; 512];
-    run_whys(&input[..got], &mut words, &mut out);
+    run_whys(&rt, &input, &mut words, &mut out)
 }
 
-fn run_whys(inputs: &[u8], words: &mut [u32], out: &mut [u8]) {
+fn run_whys(rt: &impl Print, inputs: &[u8], words: &mut [u32], out: &mut [u8]) -> io::Result<()> {
     let mut at = 0;
     let mut number: usize = 0;
     while at + 12 <= inputs.len() {
@@ -23,15 +29,17 @@ fn run_whys(inputs: &[u8], words: &mut [u32], out: &mut [u8]) {
         let to = field_end(inputs, chip, at + 8);
         number += 1;
         run_one(
+            rt,
             number,
             &inputs[badge..floor],
             &inputs[floor..chip],
             &inputs[chip..to],
             words,
             out,
-        );
+        )?;
         at = to;
     }
+    Ok(())
 }
 
 // Where the field that begins at `from` ends: its length stands at `at`, and it ends at the latest where the inputs end.
@@ -43,27 +51,23 @@ fn field_end(inputs: &[u8], from: usize, at: usize) -> usize
 }
 
 fn run_one(
+    rt: &impl Print,
     number: usize,
     badge: &[u8],
     floor: &[u8],
     chip: &[u8],
     words: &mut [u32],
     out: &mut [u8],
-) {
+) -> io::Result<()> {
     let told = why_text::tell_why(badge, floor, chip, words, out);
     let length = told.length;
-    title_line(number, told.wrong);
-    io::write_all(STDOUT_FILENO, &out[0..length]);
+    title_line(rt, number, told.wrong)?;
+    rt.write_all(&out[..length])
 }
 
-fn title_line(number: usize, wrong: bool) {
-    io::write_all(STDOUT_FILENO, b"why ");
-    io::print_decimal(STDOUT_FILENO, number as u64);
-    if wrong {
-        io::write_all(STDOUT_FILENO, b" err\n");
-    } else {
-        io::write_all(STDOUT_FILENO, b" out\n");
-    }
+fn title_line(rt: &impl Print, number: usize, wrong: bool) -> io::Result<()> {
+    let stream = if wrong { "err" } else { "out" };
+    println!(rt; "why {number} {stream}")
 }
 
 fn least(a: usize, b: usize) -> usize

@@ -1,0 +1,9 @@
+-- `print_changes` reads inside both, and each turn goes forward.
+use Rattle.std.proofs.Common.{◌-◌, ◌≤◌}
+use Rattle.replay.proofs.lines.print_changes.Given as goal
+
+abbrev pub invariant-loop-i : goal.invariant-loop-i
+invariant-loop-i g l = l.i ≤ l.n
+
+abbrev pub decreases-loop-i : goal.decreases-loop-i
+decreases-loop-i g l = l.n - l.i

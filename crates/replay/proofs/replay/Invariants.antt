@@ -1,0 +1,6 @@
+-- `replay` ends: each turn goes forward in the script.
+use Rattle.std.proofs.Common.{◌-◌, length}
+use Rattle.replay.proofs.replay.Given as goal
+
+abbrev pub decreases-loop-at : goal.decreases-loop-at
+decreases-loop-at g l = length l.script - l.at
