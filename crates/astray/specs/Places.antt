@@ -14,7 +14,8 @@ use Rattle.geometry.specs.Geometry.{bottom, room}
 use Rattle.geometry.specs.Places.{head_count_word, head_room, level_start}
 use Rattle.geometry.specs.Bounds.{room_small}
 use Rattle.geometry.specs.Directory.{pages_of, pages_none}
-use Rattle.geometry.specs.Lent.{Lent, head_least}
+use Rattle.geometry.specs.Lent.{Lent}
+use Rattle.geometry.proofs.Lent.{head_least}
 use Rattle.slot.specs.declared.Slot.{Slot}
 use Rattle.rules.specs.Level.{fence_of, fences, weave}
 use Rattle.rules.specs.Sound.{head_slots, level_slots, entries_of, directory_right, head_right, first_at, level_laid}
@@ -26,7 +27,7 @@ use Rattle.written.specs.Parts.{first_at_lem, level_laid_lem}
 use Rattle.written.specs.Inside.{level_places, head_places}
 use Rattle.entries.specs.Levels.{head_run, level_run, head_entries, level_entries}
 use Rattle.leaving.specs.declared.Writing.{Writing}
-use Rattle.leaving.specs.Leaving.{head_leaving, level_leaving}
+use Rattle.leaving.proofs.Leaving.{head_leaving, level_leaving}
 use Rattle.leaving.specs.Writing.{Within, writes}
 use Rattle.leaving.specs.Along.{weave_most}
 use Rattle.leaving.specs.Search.{leaves_at}

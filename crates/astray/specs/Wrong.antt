@@ -10,7 +10,8 @@ use Rattle.geometry.specs.declared.Plan.{Plan}
 use Rattle.geometry.specs.Geometry.{bottom, capacity, most, room}
 use Rattle.geometry.specs.Places.{slots_in_page}
 use Rattle.geometry.specs.Bounds.{capacity_least}
-use Rattle.geometry.specs.Lent.{Lent, capacities_at}
+use Rattle.geometry.specs.Lent.{Lent}
+use Rattle.geometry.proofs.Lent.{capacities_at}
 use Rattle.rules.specs.Sound.{level_slots, entries_of, directory_right}
 use Rattle.rules.specs.Faults.{rising, entries_most, entry_places, level_leaves, level_wrong}
 use Rattle.entries.specs.Levels.{level_run, level_entries}

@@ -19,7 +19,8 @@ use Rattle.geometry.specs.declared.Plan.{Plan}
 use Rattle.geometry.specs.Geometry.{InRange, bottom, most, room}
 use Rattle.geometry.specs.Places.{live_word, pages_word, head_count_word, head_start, head_place, head_room, erased}
 use Rattle.geometry.specs.Bounds.{capacity_small}
-use Rattle.geometry.specs.Lent.{Lent, lent, head_lent, plan_words}
+use Rattle.geometry.specs.Lent.{Lent, lent, plan_words}
+use Rattle.geometry.proofs.Lent.{head_lent}
 use Rattle.slot.specs.declared.Pair.{Pair}
 use Rattle.slot.specs.Pair.{least, Words}
 use Rattle.slot.specs.Tag.{tag_of}

@@ -33,13 +33,15 @@ use Rattle.entries.specs.Levels.{PagesWithin}
 use Rattle.stored.specs.Fitting.{WordsFit}
 use Rattle.stored.specs.Back.{state_of}
 use Rattle.finding.specs.Asked.{decider}
-use Rattle.good.specs.Edit.{entry, toggled_state, change_cascading}
-use Rattle.good.specs.Settle.{settled_state, settle_good}
+use Rattle.good.specs.Edit.{entry, toggled_state}
+use Rattle.good.proofs.Edit.{change_cascading}
+use Rattle.good.specs.Settle.{settled_state}
+use Rattle.good.proofs.Settle.{settle_good}
 use Rattle.edited.specs.Reach.{reach}
 use Rattle.merge.specs.Filling.{Outcome, outcome, settled, Settleable}
 use Rattle.merge.specs.Laid.{within_laid}
 use Rattle.merge.specs.Settled.{Settles, settled_to, settles}
-use Rattle.good.specs.Cascade.{good_fits}
+use Rattle.good.proofs.Cascade.{good_fits}
 use Rattle.promises.specs.Written.{sound_good, good_reads, good_walks}
 use Rattle.change.specs.declared.Report.{Report}
 use Rattle.change.specs.Change.{edited_behind, head_edited, fills_head, Changed, changed_tree, merged_change, told, done_on, merge_goes_on}

@@ -13,8 +13,10 @@ use Rattle.slot.specs.Pair.{Words}
 use Rattle.rules.specs.Merging.{State, formatted, Outcome}
 use Rattle.rules.specs.Requests.{Request, step, run, final, accepted, pair_in, RequestsFit}
 use Rattle.rules.specs.Allowance.{allowed}
-use Rattle.promises.specs.Sets.{Holds, step_agrees}
-use Rattle.promises.specs.Allowed.{reported, reported_allowed}
+use Rattle.promises.specs.Sets.{Holds}
+use Rattle.promises.proofs.Sets.{step_agrees}
+use Rattle.promises.specs.Allowed.{reported}
+use Rattle.promises.proofs.Allowed.{reported_allowed}
 use Rattle.opening.specs.Reply.{Reply}
 use Rattle.conditions.specs.Calls.{Task, formatting, changing, asking, explaining, listing, checking, Call, TaskFits, CallsFit, Made, make, history}
 use Rattle.conditions.specs.Lengths.{refusal, passed, given, geometry_then, geometry_after}
@@ -23,7 +25,7 @@ use Rattle.conditions.specs.Seen.{seen_number}
 use Rattle.conditions.specs.Ruled.{moves_to, writes_by, writes, state_then, state_after}
 use Rattle.conditions.specs.Reports.{SinceFormat, none_yet, pages_in, count_call, since_format}
 use Rattle.conditions.specs.Stands.{Stands}
-use Rattle.conditions.specs.Called.{CallAgrees, call_agrees}
+use Rattle.conditions.specs.Called.{CallAgrees}
 
 -- One request more, after the others.
 run_then : (g : Geometry) (rs : List Request) (s : State) (r : Request) → run g s (rs ++ r ∷ []) ≡ run g s rs ++ step g r (final s (run g s rs)) ∷ []
@@ -77,7 +79,7 @@ accounts_allowed g s t fit a = rw (a.accepted_all, a.reported_all) (reported_all
 
 -- A call that was refused, and one that passed the tests of lengths.
 module _ (g : Geometry) (s : State) (t : SinceFormat) (a : Accounts g s t) (r : Reply) where
-  refused_accounts : (task : Task) (n : ℕ) → r.number ≡ suc n → pages_in task r ≡ 0 → Accounts g s (count_call task r t)
+  pub refused_accounts : (task : Task) (n : ℕ) → r.number ≡ suc n → pages_in task r ≡ 0 → Accounts g s (count_call task r t)
   unfolding count_call
   refused_accounts (formatting h) n e p = rw (e, ne_eqb (suc n) 0 (λ q. omega (arith, q))) a
   refused_accounts (changing q work) n e p =
@@ -94,7 +96,7 @@ module _ (g : Geometry) (s : State) (t : SinceFormat) (a : Accounts g s t) (r : 
   refused_accounts (listing first second slice) n e p = a
   refused_accounts checking n e p = a
 
-  passed_accounts : (set : List Pair) (task : Task) → InRange g → Holds g s set → TaskFits task → r.number ≡ (answer_to (most g) task set).number →
+  pub passed_accounts : (set : List Pair) (task : Task) → InRange g → Holds g s set → TaskFits task → r.number ≡ (answer_to (most g) task set).number →
       pages_in task r ≡ length (writes_by g task s) → Accounts (given g task) (moves_to g task s) (count_call task r t)
   unfolding count_call given moves_to writes_by answer_to TaskFits
   passed_accounts set (formatting h) fit holds f e p = rw e (none_accounts h)
@@ -116,31 +118,3 @@ module _ (g : Geometry) (s : State) (t : SinceFormat) (a : Accounts g s t) (r : 
   passed_accounts set (explaining p) fit holds f e q = a
   passed_accounts set (listing first second slice) fit holds f e p = a
   passed_accounts set checking fit holds f e p = a
-
-call_accounts : (g : Geometry) (s : State) (set : List Pair) (words : List ℕ) (c : Call) (t : SinceFormat) → Stands g s set words →
-    CallAgrees g s set words c (make c words) → TaskFits c.task → Accounts g s t → Accounts (geometry_then g c) (state_then g c s) (count_call c.task (make c words).reply t)
-unfolding make answered writes geometry_then state_then passed
-call_accounts g s set words c t stands agrees f a = by (refusal g c) refl
-  where
-    m : Made
-    m = make c words
-
-    told : m.reply.number ≡ (answered g c set).number
-    told = sym (seen_number c.task m.reply m.beside) ∙ ap (λ (x : Answer). x.number) agrees.answers
-
-    by : (n : ℕ) → refusal g c ≡ n →
-        Accounts (passed (refusal g c) (given g c.task) g) (passed (refusal g c) (moves_to g c.task s) s) (count_call c.task m.reply t)
-    by zero e =
-        rw e
-        (passed_accounts g s t a m.reply set c.task stands.in_range_lem stands.holds f (told ∙ rw e refl) (agrees.pages ∙ rw e refl))
-    by (suc n) e = rw e (refused_accounts g s t a m.reply c.task n (told ∙ rw e (refusing_number (suc n) c.task)) (agrees.pages ∙ rw e refl))
-
-pub calls_account : (cs : List Call) (g : Geometry) (s : State) (set : List Pair) (words : List ℕ) (t : SinceFormat) → Stands g s set words →
-    CallsFit (length words) cs → Accounts g s t → Accounts (geometry_after g cs) (state_after g s cs) (since_format t (history words cs))
-unfolding CallsFit history geometry_after state_after since_format make
-calls_account [] g s set words t stands f a = a
-calls_account (c ∷ cs) g s set words t stands f a =
-    let here = call_agrees g s set words c stands f.0.0 f.0.1 in
-    let m = make c words in
-    calls_account cs (geometry_then g c) (state_then g c s) (set_then g c set) m.words (count_call c.task m.reply t) here.after
-    (rw here.as_long f.1) (call_accounts g s set words c t stands here f.0.1 a)

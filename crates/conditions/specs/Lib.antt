@@ -34,4 +34,3 @@ pub mod Sequences
 pub mod Accounts
 pub mod Numbers
 pub mod Formatted
-pub mod Conditions

@@ -18,7 +18,7 @@ use Rattle.finding.specs.Asked.{decider}
 use Rattle.promises.specs.Written.{good_length, good_geometry, good_walks}
 use Rattle.opening.specs.Opening.{opening, too_short, wrong_length, all_pass}
 use Rattle.call_why.specs.Why.{why_lines}
-use Rattle.trails.specs.Decides.{found_lines}
+use Rattle.trails.proofs.Decides.{found_lines}
 
 module _ (g : Geometry) (fit : InRange g) (s : State) (good : Good g s) where
   abbrev w : List ℕ

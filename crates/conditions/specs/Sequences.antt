@@ -12,23 +12,8 @@ use Rattle.conditions.specs.Seen.{seen}
 use Rattle.conditions.specs.Ruled.{state_then, state_after, pages_written}
 use Rattle.conditions.specs.Reports.{pages_reported}
 use Rattle.conditions.specs.Stands.{Stands}
-use Rattle.conditions.specs.Called.{call_agrees}
 
 pub record AllAgree (g : Geometry) (s : State) (set : List Pair) (words : List ℕ) (cs : List Call) : Type 0 where
   pub answered : seen (history words cs) ≡ answers g set cs
   pub pages : pages_reported (history words cs) ≡ map length (pages_written g s cs)
   pub after : Stands (geometry_after g cs) (state_after g s cs) (set_after g set cs) (words_after words (history words cs))
-
-pub calls_agree : (cs : List Call) (g : Geometry) (s : State) (set : List Pair) (words : List ℕ) → Stands g s set words → CallsFit (length words) cs →
-    AllAgree g s set words cs
-unfolding CallsFit history words_after geometry_after answers set_after state_after pages_written seen pages_reported
-calls_agree [] g s set words stands f = record { answered = refl; pages = refl; after = stands }
-calls_agree (c ∷ cs) g s set words stands f =
-    let here = call_agrees g s set words c stands f.0.0 f.0.1 in
-    let later =
-    calls_agree cs (geometry_then g c) (state_then g c s) (set_then g c set) (make c words).words here.after (rw here.as_long f.1) in
-    record {
-      answered = ap₂ (λ (a : Answer) (rest : List Answer). a ∷ rest) here.answers later.answered;
-      pages = ap₂ (λ (n : ℕ) (ns : List ℕ). n ∷ ns) here.pages later.pages;
-      after = later.after;
-    }

@@ -11,7 +11,8 @@ use Rattle.rules.specs.Store.{writing, empty_store}
 use Rattle.rules.specs.Requests.{run, final, RequestsFit}
 use Rattle.promises.specs.Written.{good_geometry, good_sound}
 use Rattle.promises.specs.Answers.{answers as answers-of-requests, set_after as set-after-requests}
-use Rattle.promises.specs.Sets.{Holds, run_holds}
+use Rattle.promises.specs.Sets.{Holds}
+use Rattle.promises.proofs.Sets.{run_holds}
 use Rattle.call_check.specs.Check.{check_of, check_tested}
 use Rattle.conditions.specs.Opened.{opens, whole_lent}
 

@@ -28,9 +28,9 @@ use Rattle.stored.specs.Slots.{slots_length}
 use Rattle.finding.specs.Rising.{rising_order}
 use Rattle.finding.specs.Fences.{fences_over}
 use Rattle.finding.specs.Rows.{head_row_lem, head_woven, woven_rising, lower_rows}
-use Rattle.good.specs.Room.{head_takes_one_more}
+use Rattle.good.proofs.Room.{head_takes_one_more}
 use Rattle.good.specs.Within.{head_few}
-use Rattle.good.specs.Cascade.{good_fits}
+use Rattle.good.proofs.Cascade.{good_fits}
 use Rattle.edited.specs.Reach.{reach, reach_within}
 use Rattle.edited.specs.Woven.{toggle_weaves_in, toggle_weaves_out, own_reached}
 use Rattle.edited.specs.Run.{run_in, run_out}

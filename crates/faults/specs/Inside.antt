@@ -34,7 +34,7 @@ use Rattle.faults.specs.Miswritten.LevelBreaks.{word_differs, entry_falls, entry
 use Rattle.faults.specs.Miswritten.Miswritten.{in_head, in_level}
 use Rattle.faults.specs.Kinds.{FirstWrong, WrongAcross, level_read}
 use Rattle.faults.specs.Kinds.WrongAcross.{kind_wrong, live_wrong}
-use Rattle.good.specs.Cascade.{capacity_total}
+use Rattle.good.proofs.Cascade.{capacity_total}
 use Rattle.good.specs.Pages.{weave_length, paged_pages, pages_within}
 
 -- The place of a fault is a slot of the head's room, or of a page of the room of a level below.

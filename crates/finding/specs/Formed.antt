@@ -23,7 +23,7 @@ use Rattle.rules.specs.Good.{Good, Fits}
 use Rattle.rules.specs.Reading.{Reads}
 use Rattle.finding.specs.Rising.{rising_take, rising_drop, rising_order}
 use Rattle.rules.specs.Pages.{pages_some, pages_inside}
-use Rattle.rules.specs.Woven.{entries_woven, fence_pages_woven}
+use Rattle.rules.proofs.Woven.{entries_woven, fence_pages_woven}
 use Rattle.finding.specs.Fences.{fences_over, pages_under, fences_only, fences_pages}
 use Rattle.finding.specs.Rows.{Row, Rows, woven_legal, woven_rising, woven_first, least_fence_first, head_woven, lower_rows, row_below, some_slot, pages_at, pages_past}
 

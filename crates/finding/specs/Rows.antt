@@ -15,7 +15,8 @@ use Rattle.finding.specs.Rising.{Rising}
 use Rattle.finding.specs.Woven.{rising_entries, rising_woven}
 use Rattle.finding.specs.Paged.{legal_paged, rising_paged, fence_opens}
 use Rattle.rules.specs.Pages.{pages_some}
-use Rattle.rules.specs.Woven.{fence, index_legal, all_woven}
+use Rattle.rules.specs.Woven.{fence, index_legal}
+use Rattle.rules.proofs.Woven.{all_woven}
 use Rattle.finding.specs.Fences.{fences_over, pages_under, fences_only, fences_legal, bottom_legal, fences_rising, fences_first}
 use Rattle.geometry.specs.Places.{slots_in_page}
 

@@ -13,7 +13,8 @@ use Rattle.laws.specs.First.{first_from, first_not, first_at_once}
 use Rattle.laws.specs.Lists.{span, passing, all, equal}
 use Rattle.geometry.specs.declared.Geometry.{Geometry}
 use Rattle.geometry.specs.declared.Plan.{Plan}
-use Rattle.geometry.specs.Lent.{Lent, head_lent, head_least, head_room_at}
+use Rattle.geometry.specs.Lent.{Lent}
+use Rattle.geometry.proofs.Lent.{head_lent, head_least, head_room_at}
 use Rattle.geometry.specs.Geometry.{bottom}
 use Rattle.geometry.specs.Places.{head_room, head_count_word, head_start, slots_in_page, words_in_slot, page_place}
 use Rattle.slot.specs.declared.Pair.{Pair}

@@ -19,8 +19,10 @@ use Rattle.geometry.specs.declared.LevelPlace.{LevelPlace}
 use Rattle.geometry.specs.Geometry.{InRange, room}
 use Rattle.geometry.specs.Places.{erased, head_start, head_room, level_start, store_words, directory_words, words_in_page, words_in_slot}
 use Rattle.geometry.specs.Bounds.{room_least}
-use Rattle.geometry.specs.Apart.{level_after, level_inside, level_before}
-use Rattle.geometry.specs.Lent.{Lent, page_at_lem}
+use Rattle.geometry.specs.Apart.{level_after, level_inside}
+use Rattle.geometry.proofs.Apart.{level_before}
+use Rattle.geometry.specs.Lent.{Lent}
+use Rattle.geometry.proofs.Lent.{page_at_lem}
 use Rattle.geometry.specs.Directory.{level_place}
 use Rattle.slot.specs.declared.Slot.{Slot}
 use Rattle.slot.specs.Slot.{words_of}

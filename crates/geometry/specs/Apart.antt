@@ -21,15 +21,12 @@ unfolding room_before
 room_before_grows g i zero = rw zero-add (le_refl (room_before g i))
 room_before_grows g i (suc n) = rw (suc-add n i) (le_trans (room_before_grows g i n) (le-add_right (room_before g (n + i)) (room g (n + i))))
 
-level_grows : (g : Geometry) (i j : ℕ) → i ≤ j → level_start g i ≤ level_start g j
+pub level_grows : (g : Geometry) (i j : ℕ) → i ≤ j → level_start g i ≤ level_start g j
 unfolding level_start
 level_grows g i j h =
     let e : (j - i) + i ≡ j = omega arith in
     let grown : room_before g i ≤ room_before g j = rw e at (room_before_grows g i (j - i)) in
     omega arith
-
-pub level_before : (g : Geometry) (i j : ℕ) → i < j → level_start g i + 64 * room g i ≤ level_start g j
-level_before g i j h = rw (level_after g i) at (level_grows g (suc i) j h)
 
 -- The head's slots end where level 1 begins.
 pub head_inside : (g : Geometry) (j : ℕ) → j < head_room g → head_place j + 3 ≤ level_start g 1
@@ -40,10 +37,6 @@ head_inside g j h = omega arith
 pub slot_inside : (g : Geometry) (i p j : ℕ) → j < 21 → slot_place g i p j + 3 ≤ page_place g i (suc p)
 unfolding slot_place page_place
 slot_inside g i p j h = omega arith
-
-pub page_inside : (g : Geometry) (i p : ℕ) → p < room g i → page_place g i (suc p) ≤ level_start g (suc i)
-unfolding page_place
-page_inside g i p h = omega (arith, level_after g i)
 
 pub level_inside : (g : Geometry) (i : ℕ) → i < 4 → level_start g (suc i) ≤ store_words g
 unfolding store_words
@@ -57,11 +50,6 @@ count_before_slots g i p j = omega arith
 pub first_slot : (g : Geometry) (i p : ℕ) → slot_place g i p 0 ≡ page_place g i p + 1
 unfolding slot_place
 first_slot g i p = omega arith
-
--- Two different places never overlap: an earlier level, an earlier page of a level, an earlier slot of a page ends before a later one begins.
-pub levels_apart : (g : Geometry) (i p i' p' : ℕ) → i < i' → p < room g i → page_place g i (suc p) ≤ page_place g i' p'
-unfolding page_place
-levels_apart g i p i' p' h b = omega (arith, level_before g i i' h)
 
 pub pages_apart : (g : Geometry) (i p p' : ℕ) → p < p' → page_place g i (suc p) ≤ page_place g i p'
 unfolding page_place

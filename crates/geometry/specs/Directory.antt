@@ -44,19 +44,3 @@ module _ (g : Geometry) (w : List ℕ) (i : ℕ) where
   pub place_pages : (level_place g w i).pages ≡ pages_of g w i
   unfolding level_place
   place_pages = refl
-
--- A level that does not exist begins where the store ends.
-pub start_none : (g : Geometry) (n i : ℕ) → g.levels ≤ i → i + n ≡ 4 → level_start g i ≡ store_words g
-unfolding store_words
-start_none g zero i h e =
-    let four : i ≡ 4 = omega arith in
-    rw four
-start_none g (suc n) i h e =
-    let next = start_none g n (suc i) (omega arith) (omega arith) in
-    let none = room_none g i h in
-    omega (arith, level_after g i, none, next)
-
-pub place_none : (g : Geometry) (w : List ℕ) (i : ℕ) → g.levels ≤ i → i ≤ 4 →
-    record { start = store_words g; room = 0; pages = 0 } ≡ level_place g w i
-unfolding level_place
-place_none g w i h b = rw (start_none g (4 - i) i h (omega arith), room_none g i h, pages_none g w i h)

@@ -20,7 +20,7 @@ use Rattle.rules.specs.Good.{LevelFits, TreeFits}
 use Rattle.entries.specs.Ascending.{From, from_ascending}
 use Rattle.good.specs.Join.{join_ascends, join_fits}
 use Rattle.good.specs.Alternate.{Over, alternating_over, alternating_below, over_alternating, join_over, joined_held}
-use Rattle.good.specs.Live.{Counted, joined_counted, lone_live}
+use Rattle.good.specs.Live.{Counted, lone_live}
 use Rattle.good.specs.Under.{held_under, ascending_under, alternating_under, count_under, fits_under, empties_first}
 
 -- The levels of the merged tree.
@@ -71,14 +71,14 @@ merge_fits i t a =
     (join_fits (level i t) (level (suc i) t) (level_fits t i a) (level_fits t (suc i) a), drop_fits (suc (suc i)) t a)
 
 -- Two neighbouring levels over the rest, each ascending and alternating with those below.
-record Neighbours (es fs : Level) (t : Tree) : Type 0 where
-  upper : From 0 es
-  lower : From 0 fs
-  over : Over es (fs ∷ t)
-  next : Over fs t
-  below : alternating t ≡ true
+pub record Neighbours (es fs : Level) (t : Tree) : Type 0 where
+  pub upper : From 0 es
+  pub lower : From 0 fs
+  pub over : Over es (fs ∷ t)
+  pub next : Over fs t
+  pub below : alternating t ≡ true
 
-neighbours : (es fs : Level) (t : Tree) → all ascending (es ∷ fs ∷ t) ≡ true → alternating (es ∷ fs ∷ t) ≡ true → Neighbours es fs t
+pub neighbours : (es fs : Level) (t : Tree) → all ascending (es ∷ fs ∷ t) ≡ true → alternating (es ∷ fs ∷ t) ≡ true → Neighbours es fs t
 neighbours es fs t a o =
     let below = alternating_below es (fs ∷ t) o in
     record {
@@ -88,59 +88,3 @@ neighbours es fs t a o =
       next = alternating_over fs t below;
       below = alternating_below fs t below;
     }
-
--- What the merge keeps.
-module _ (i : ℕ) (t : Tree) (h : suc i < length t) (above : (j : ℕ) → j < i → level j t ≡ []) (a : all ascending t ≡ true) (o : alternating t ≡ true) where
-  abbrev es : Level
-  es = level i t
-
-  abbrev fs : Level
-  fs = level (suc i) t
-
-  abbrev u : Tree
-  u = drop (suc (suc i)) t
-
-  parts : t ≡ replicate i [] ++ es ∷ fs ∷ u
-  parts = empties_first i t h above
-
-  ascends : all ascending (es ∷ fs ∷ u) ≡ true
-  ascends = sym (ap (all ascending) parts ∙ ascending_under i (es ∷ fs ∷ u)) ∙ a
-
-  two : Neighbours es fs u
-  two = neighbours es fs u ascends (sym (ap alternating parts ∙ alternating_under i (es ∷ fs ∷ u)) ∙ o)
-
-  pub merge_ascends : all ascending (merge i t) ≡ true
-  unfolding merge
-  merge_ascends =
-      let lower = all_rest ascending es (fs ∷ u) ascends in
-      let joined = join_ascends es fs (all_first ascending es (fs ∷ u) ascends) (all_first ascending fs u lower) in
-      ascending_under (suc i) (join es fs ∷ u) ∙ rw (all_cons ascending (join es fs) u, joined, all_rest ascending fs u lower) refl
-
-  pub merge_alternates : alternating (merge i t) ≡ true
-  unfolding merge
-  merge_alternates =
-      alternating_under (suc i) (join es fs ∷ u) ∙
-      over_alternating (join es fs) u (join_over 0 0 es fs u two.upper two.lower two.over two.next) two.below
-
-  joined : (live : ℕ) → Counted live t → Counted live (join es fs ∷ u)
-  unfolding Counted
-  joined live c =
-      let parted : (b : Bool) → count_kind b t ≡ count_kind b (es ∷ fs ∷ u) = λ b. ap (count_kind b) parts ∙ count_under b i (es ∷ fs ∷ u) in
-      joined_counted live 0 0 es fs u two.upper two.lower two.over (omega (arith, c, parted true, parted false))
-
-  pub merge_counted : (live : ℕ) → Counted live t → Counted live (merge i t)
-  unfolding Counted merge
-  merge_counted live c = omega (arith, count_under true (suc i) (join es fs ∷ u), count_under false (suc i) (join es fs ∷ u), joined live c)
-
-  pub merge_holds : (p : Pair) → held p (merge i t) ≡ held p t
-  unfolding merge
-  merge_holds p =
-      held_under p (suc i) (join es fs ∷ u) ∙ joined_held p 0 0 es fs u two.upper two.lower two.over two.next ∙
-      sym (ap (held p) parts ∙ held_under p i (es ∷ fs ∷ u))
-
-  -- Merged into the bottom, the entries are the pairs held.
-  pub merge_last : (live : ℕ) → Counted live t → length t ≡ suc (suc i) → length (join es fs) ≡ live
-  merge_last live c l =
-      let none : u ≡ [] = drop_of_length-le t {i = suc (suc i)} (omega (arith, l)) in
-      let over : Over (join es fs) [] = subst (Over (join es fs)) none (join_over 0 0 es fs u two.upper two.lower two.over two.next) in
-      sym (lone_live live (join es fs) over (subst (λ (r : Tree). Counted live (join es fs ∷ r)) none (joined live c)))

@@ -14,7 +14,7 @@ use Rattle.rules.specs.Level.{slots_of}
 use Rattle.rules.specs.Finding.{held}
 use Rattle.rules.specs.Merging.{State, merge, pages_written, settle}
 use Rattle.rules.specs.Good.{Good, Cascading}
-use Rattle.good.specs.Cascade.{merged_state, merged_cascading, settled_upper, settled_bottom, merge_held}
+use Rattle.good.specs.Cascade.{merged_state}
 
 -- A level settled stays where it has fewer entries than its capacity, and is merged on otherwise.
 module _ (g : Geometry) (n i : ℕ) (t : Tree) where
@@ -64,29 +64,3 @@ module _ (g : Geometry) where
 -- The state once level i, with n levels below it, is settled.
 abbrev pub settled_state : Geometry → ℕ → ℕ → State → State
 settled_state g n i s = record { live = s.live; tree = (settle g n i s.tree).tree }
-
-module _ (g : Geometry) (fit : InRange g) where
-  pub settle_good : (n i : ℕ) (s : State) → Cascading g i s → n + i ≡ bottom g → Good g (settled_state g n i s)
-  unfolding settle
-  settle_good zero i s c e = settled_bottom g fit i s c (omega (arith, e))
-  settle_good (suc n) i s c e = told (ltb (length (level i s.tree)) (capacity g i)) refl (settle_good n (suc i) (merged_state i s))
-    where
-      told : (b : Bool) → ltb (length (level i s.tree)) (capacity g i) ≡ b →
-          (Cascading g (suc i) (merged_state i s) → n + suc i ≡ bottom g → Good g (settled_state g n (suc i) (merged_state i s))) → Good g (settled_state g (suc n) i s)
-      told true h rest =
-          rw (settle_stays g n i s.tree h) (settled_upper g fit i s c (omega (arith, e)) (ltb-true (length (level i s.tree)) (capacity g i) h))
-      told false h rest = rw (settle_sinks g n i s.tree h) (rest (merged_cascading g fit i s c (omega (arith, e))) (omega (arith, e)))
-
-  -- No pair is lost or won on the way.
-  pub settle_held : (n i : ℕ) (s : State) → Cascading g i s → n + i ≡ bottom g → (p : Pair) → held p (settle g n i s.tree).tree ≡ held p s.tree
-  unfolding settle
-  settle_held zero i s c e p = refl
-  settle_held (suc n) i s c e p = told (ltb (length (level i s.tree)) (capacity g i)) refl (settle_held n (suc i) (merged_state i s))
-    where
-      told : (b : Bool) → ltb (length (level i s.tree)) (capacity g i) ≡ b →
-          (Cascading g (suc i) (merged_state i s) → n + suc i ≡ bottom g → (q : Pair) → held q (settle g n (suc i) (merge i s.tree)).tree ≡ held q (merge i s.tree)) →
-          held p (settle g (suc n) i s.tree).tree ≡ held p s.tree
-      told true h rest = rw (settle_stays g n i s.tree h) refl
-      told false h rest =
-          let k : i < bottom g = omega (arith, e) in
-          rw (settle_sinks g n i s.tree h) (rest (merged_cascading g fit i s c k) (omega (arith, e)) p ∙ merge_held g i s c k p)

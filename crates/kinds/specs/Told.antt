@@ -90,72 +90,14 @@ module _ (w : List ℕ) (level n : ℕ) (rs : Runs) where
       rw left
 
 -- Trees that judge each entry alike tell the same.
-level_agree : (level size : ℕ) (places : List ℕ) (es : Level) (t u : Tree) → ((e : Entry) → right_over t e ≡ right_over u e) →
+pub level_agree : (level size : ℕ) (places : List ℕ) (es : Level) (t u : Tree) → ((e : Entry) → right_over t e ≡ right_over u e) →
     level_fault level size places es t ≡ level_fault level size places es u
 unfolding level_fault stands_over
 level_agree level size places es t u h = rw (wrong_agree t u h es, ap (λ (f : Entry → Bool). all f es) (fun_ext h))
 
 -- What ends in nothing tells what stands before it.
-sound_behind : (js : List Judged) → first_fault (js ++ Sound ∷ []) ≡ first_fault js
+pub sound_behind : (js : List Judged) → first_fault (js ++ Sound ∷ []) ≡ first_fault js
 unfolding first_fault
 sound_behind [] = refl
 sound_behind (Sound ∷ js) = sound_behind js
 sound_behind (FaultAt f ∷ js) = refl
-
--- The four runs of a store tell what the rules find: levels without entries below tell nothing.
-module _ (g : Geometry) (w : List ℕ) where
-  abbrev at_level : ℕ → Level → Tree → Judged
-  at_level i es t = level_fault i (page_size g i) (entry_places g w i) es t
-
-  agree_at : (i : ℕ) (es : Level) (t u : Tree) → ((e : Entry) → right_over t e ≡ right_over u e) → at_level i es t ≡ at_level i es u
-  agree_at i = level_agree i (page_size g i) (entry_places g w i)
-
-  four_found : (a b c d : Level) → at_level 0 a (b ∷ c ∷ d ∷ [] ∷ []) ∷ at_level 1 b (c ∷ d ∷ [] ∷ [] ∷ []) ∷ at_level 2 c (d ∷ [] ∷ [] ∷ [] ∷ []) ∷
-      at_level 3 d ([] ∷ [] ∷ [] ∷ [] ∷ []) ∷ [] ≡ kinds_faults g w 0 (a ∷ b ∷ c ∷ d ∷ [])
-  unfolding kinds_faults level_fault stands_over held find
-  four_found a b c d =
-      rw (
-        agree_at 0 a (b ∷ c ∷ d ∷ [] ∷ []) (b ∷ c ∷ d ∷ []) (λ e. refl),
-        agree_at 1 b (c ∷ d ∷ [] ∷ [] ∷ []) (c ∷ d ∷ []) (λ e. refl),
-        agree_at 2 c (d ∷ [] ∷ [] ∷ [] ∷ []) (d ∷ []) (λ e. refl),
-        agree_at 3 d ([] ∷ [] ∷ [] ∷ [] ∷ []) [] (λ e. refl),
-      ) refl
-
-  runs_found : faults_from w 0 (runs_of g w) 4 ≡ kinds_faults g w 0 (tree_in w (runs_of g w))
-  unfolding faults_from top_fault run_fault tree_in runs_of below_of entries_in span concat entries_of head_run level_run page_size
-  runs_found = rw (head_places g w, level_places g w 0, level_places g w 1, level_places g w 2) (four_found _ _ _ _)
-
-  two_found : (a b : Level) → first_fault (kinds_faults g w 0 (a ∷ b ∷ [] ∷ [] ∷ [])) ≡ first_fault (kinds_faults g w 0 (a ∷ b ∷ []))
-  unfolding first_fault kinds_faults level_fault stands_over all held find
-  two_found a b =
-      ap₂ (λ (x y : Judged). first_fault (x ∷ y ∷ Sound ∷ Sound ∷ [])) (agree_at 0 a (b ∷ [] ∷ [] ∷ []) (b ∷ []) (λ e. refl))
-      (agree_at 1 b ([] ∷ [] ∷ []) [] (λ e. refl)) ∙
-      sound_behind (at_level 0 a (b ∷ []) ∷ at_level 1 b [] ∷ Sound ∷ []) ∙
-      sound_behind (at_level 0 a (b ∷ []) ∷ at_level 1 b [] ∷ [])
-
-  three_found : (a b c : Level) → first_fault (kinds_faults g w 0 (a ∷ b ∷ c ∷ [] ∷ [])) ≡ first_fault (kinds_faults g w 0 (a ∷ b ∷ c ∷ []))
-  unfolding first_fault kinds_faults level_fault stands_over all held find
-  three_found a b c =
-      ap₂ (λ (x y : Judged). first_fault (x ∷ y ∷ at_level 2 c ([] ∷ []) ∷ Sound ∷ [])) (agree_at 0 a (b ∷ c ∷ [] ∷ []) (b ∷ c ∷ []) (λ e. refl))
-      (agree_at 1 b (c ∷ [] ∷ []) (c ∷ []) (λ e. refl)) ∙
-      ap (λ (z : Judged). first_fault (at_level 0 a (b ∷ c ∷ []) ∷ at_level 1 b (c ∷ []) ∷ z ∷ Sound ∷ [])) (agree_at 2 c ([] ∷ []) [] (λ e. refl)) ∙
-      sound_behind (at_level 0 a (b ∷ c ∷ []) ∷ at_level 1 b (c ∷ []) ∷ at_level 2 c [] ∷ [])
-
-  runs_told : InRange g → first_fault (faults_from w 0 (runs_of g w) 4) ≡ first_fault (kinds_faults g w 0 (tree_of g w))
-  runs_told fit =
-      rw runs_found (by_levels g w fit (λ t u. first_fault (kinds_faults g w 0 u) ≡ first_fault (kinds_faults g w 0 t)) two_found three_found (λ a b c d. refl))
-
--- What is told of a store's runs, and then of live, is what the rules find across levels.
-module _ (g : Geometry) (w : List ℕ) (fit : InRange g) (rs : Runs) (read : rs ≡ runs_of g w) (j : Judged) (told : j ≡ first_fault (faults_from w 0 rs 4)) where
-  kinds_told : j ≡ first_fault (kinds_faults g w 0 (tree_of g w))
-  kinds_told = told ∙ rw read (runs_told g w fit)
-
-  pub across_wrong : (f : Fault) → j ≡ FaultAt f → FaultAt f ≡ across_fault g w
-  unfolding across_fault
-  across_wrong f e = sym (fault_joined _ (kinds_faults g w 0 (tree_of g w)) f (sym kinds_told ∙ e))
-
-  pub across_live : (n : KindCounts) → j ≡ Sound → n ≡ tree_counts (tree_in w rs) →
-      unless (eqb (get_or w live_word 0 + n.filters) n.normal) (no_place Kinds) ≡ across_fault g w
-  unfolding across_fault
-  across_live n e counted =
-      rw (live_told g w rs (get_or w live_word 0) n fit read counted) (sym (none_joined _ (kinds_faults g w 0 (tree_of g w)) (sym kinds_told ∙ e) ∙ only_one _))

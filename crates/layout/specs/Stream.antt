@@ -211,7 +211,7 @@ module _ (inner : Bool) (first : ℕ → Pair) (below : ℕ) where
   -- What the writing has next -------------------------------------------------------------------------------------------------------------
 
   -- An entry, where it comes next; a fence, where it does; nothing, where neither is left.
-  weave_entry : (p : ℕ) (e : Entry) (es : Level) → entry_next first below p e.pair ≡ true → weave (e ∷ es) (fences_from p) ≡ index e ∷ weave es (fences_from p)
+  pub weave_entry : (p : ℕ) (e : Entry) (es : Level) → entry_next first below p e.pair ≡ true → weave (e ∷ es) (fences_from p) ≡ index e ∷ weave es (fences_from p)
   unfolding weave place entry_next
   weave_entry p e es h = chosen (leb below p) refl h
     where
@@ -222,7 +222,7 @@ module _ (inner : Bool) (first : ℕ → Pair) (below : ℕ) where
           let n : before e.pair (fence_of first p).pair ≡ true = t in
           rw (fences_next p (leb-false below p q), place, n) refl
 
-  weave_fence : (p : ℕ) (e : Entry) (es : Level) → entry_next first below p e.pair ≡ false →
+  pub weave_fence : (p : ℕ) (e : Entry) (es : Level) → entry_next first below p e.pair ≡ false →
       weave (e ∷ es) (fences_from p) ≡ fence_of first p ∷ weave (e ∷ es) (fences_from (p + 1))
   unfolding weave place entry_next
   weave_fence p e es h = chosen (leb below p) refl h
@@ -246,7 +246,7 @@ module _ (inner : Bool) (first : ℕ → Pair) (below : ℕ) where
   fence_passed (suc p) = refl
 
   -- Cutting passes a fence and an entry, and puts an internal fence before an entry that is first in a page.
-  cut_fence : (b : Bool) (n p : ℕ) (ss : List Slot) → cut b n p (fence_of first p ∷ ss) ≡ fence_of first p ∷ cut b (n + 1) (p + 1) ss
+  pub cut_fence : (b : Bool) (n p : ℕ) (ss : List Slot) → cut b n p (fence_of first p ∷ ss) ≡ fence_of first p ∷ cut b (n + 1) (p + 1) ss
   unfolding cut paged fence_of external
   cut_fence true n zero ss = rw (page_on n) refl
   cut_fence true n (suc p) ss =
@@ -254,14 +254,14 @@ module _ (inner : Bool) (first : ℕ → Pair) (below : ℕ) where
       rw (page_on n, z) refl
   cut_fence false n p ss = refl
 
-  cut_entry : (b : Bool) (n p : ℕ) (e : Entry) (ss : List Slot) → (b && eqb (n % 21) 0) ≡ false → cut b n p (index e ∷ ss) ≡ index e ∷ cut b (n + 1) p ss
+  pub cut_entry : (b : Bool) (n p : ℕ) (e : Entry) (ss : List Slot) → (b && eqb (n % 21) 0) ≡ false → cut b n p (index e ∷ ss) ≡ index e ∷ cut b (n + 1) p ss
   unfolding cut paged
   cut_entry true n p e ss h =
       let q : eqb (n % 21) 0 ≡ false = h in
       rw (entry_kind e, q, paged, page_on n) refl
   cut_entry false n p e ss h = refl
 
-  cut_first : (b : Bool) (n p : ℕ) (e : Entry) (ss : List Slot) → (b && eqb (n % 21) 0) ≡ true →
+  pub cut_first : (b : Bool) (n p : ℕ) (e : Entry) (ss : List Slot) → (b && eqb (n % 21) 0) ≡ true →
       cut b n p (index e ∷ ss) ≡ internal e.pair (p - 1) ∷ cut b (n + 1) p (index e ∷ ss)
   unfolding cut paged
   cut_first true n p e ss h =
@@ -271,33 +271,9 @@ module _ (inner : Bool) (first : ℕ → Pair) (below : ℕ) where
   cut_first false n p e ss h = cc
 
   -- So the writing goes on: with a fence alone, with an entry, and with an entry or a fence.
-  laid_fence : (n p : ℕ) → p < below → cut inner n p (weave [] (fences_from p)) ≡ fence_of first p ∷ cut inner (n + 1) (p + 1) (weave [] (fences_from (p + 1)))
+  pub laid_fence : (n p : ℕ) → p < below → cut inner n p (weave [] (fences_from p)) ≡ fence_of first p ∷ cut inner (n + 1) (p + 1) (weave [] (fences_from (p + 1)))
   unfolding weave
   laid_fence n p b = rw (fences_next p b) (cut_fence inner n p (fences_from (p + 1)))
-
-  laid_entry : (n p : ℕ) (e : Entry) (es : Level) (b : Bool) → fenced_at inner n ≡ b → entry_next first below p e.pair ≡ true → cut inner n p (weave (e ∷ es) (fences_from p)) ≡
-      cond b (internal e.pair (p - 1)) (index e) ∷
-      cut inner (n + 1) (passed (cond b (internal e.pair (p - 1)) (index e)).kind p)
-      (weave (cond (not b) es (e ∷ es)) (fences_from (passed (cond b (internal e.pair (p - 1)) (index e)).kind p)))
-  unfolding fenced_at
-  laid_entry n p e es true f q =
-      rw (internal_passed e.pair (p - 1) p, weave_entry p e es q) (cut_first inner n p e (weave es (fences_from p)) f)
-  laid_entry n p e es false f q = rw (entry_passed e p, weave_entry p e es q) (cut_entry inner n p e (weave es (fences_from p)) f)
-
-  -- The writing goes on with the wanted slot, and then with what is left; it ends where nothing is left.
-  pub laid_next : (n p : ℕ) (es : Level) → ended p es ≡ false →
-      laid_from n p es ≡ wanted n p es ∷ laid_from (n + 1) (passed (wanted n p es).kind p) (left n p es)
-  unfolding laid_from ended wanted left
-  laid_next n p [] h = rw (fence_passed p) (laid_fence n p (leb-false below p h))
-  laid_next n p (e ∷ es) h = chosen (entry_next first below p e.pair) refl
-    where
-      chosen : (b : Bool) → entry_next first below p e.pair ≡ b → cut inner n p (weave (e ∷ es) (fences_from p)) ≡
-          cond b (cond (fenced_at inner n) (internal e.pair (p - 1)) (index e)) (fence_of first p) ∷
-          cut inner (n + 1) (passed (cond b (cond (fenced_at inner n) (internal e.pair (p - 1)) (index e)) (fence_of first p)).kind p)
-          (weave (cond (b && not (fenced_at inner n)) es (e ∷ es))
-          (fences_from (passed (cond b (cond (fenced_at inner n) (internal e.pair (p - 1)) (index e)) (fence_of first p)).kind p)))
-      chosen true q = laid_entry n p e es (fenced_at inner n) refl q
-      chosen false q = rw (fence_passed p, weave_fence p e es q) (cut_fence inner n p (weave (e ∷ es) (fences_from (p + 1))))
 
   pub laid_ended : (n p : ℕ) (es : Level) → ended p es ≡ true → laid_from n p es ≡ []
   unfolding laid_from ended weave cut paged
@@ -343,45 +319,3 @@ module _ (inner : Bool) (first : ℕ → Pair) (below : ℕ) where
           left n p (elim b [ true ↦ entries_of ss | false ↦ entry_of s ∷ entries_of ss ]) ≡ entries_of ss
       chosen true q w = left_fence n p (entries_of ss) (ap (λ (x : Slot). fence_kind x.kind) (sym w) ∙ q)
       chosen false q w = left_entry n p (entry_of s) (entries_of ss) (ap (λ (x : Slot). fence_kind x.kind) (sym w) ∙ q)
-
-  -- Slots that follow the stream are the writing of their own entries, and the writing follows the stream.
-  pub stream_laid : (n p : ℕ) (ss : List Slot) → are_stream n p ss ≡ true → laid_from n p (entries_of ss) ≡ ss
-  unfolding are_stream entries_of ended
-  stream_laid n p [] h = laid_ended n p [] h
-  stream_laid n p (s ∷ ss) h =
-      let es = entries_of (s ∷ ss) in
-      let rest = are_stream (n + 1) (passed s.kind p) ss in
-      let front = and_left (not (ended p es) && same_slot s (wanted n p es)) rest h in
-      let more : ended p es ≡ false = not-true (ended p es) (and_left (not (ended p es)) (same_slot s (wanted n p es)) front) in
-      let same : s ≡ wanted n p es = same_slot_lem s (wanted n p es) (and_right (not (ended p es)) (same_slot s (wanted n p es)) front) in
-      let tail : laid_from (n + 1) (passed s.kind p) (entries_of ss) ≡ ss =
-      stream_laid (n + 1) (passed s.kind p) ss (and_right (not (ended p es) && same_slot s (wanted n p es)) rest h) in
-      laid_next n p es more ∙ goes_on s (wanted n p es) same (left n p es) (left_behind n p s ss same) tail
-    where
-      goes_on : (a b : Slot) → a ≡ b → (l : Level) → l ≡ entries_of ss → laid_from (n + 1) (passed a.kind p) (entries_of ss) ≡ ss →
-          b ∷ laid_from (n + 1) (passed b.kind p) l ≡ a ∷ ss
-      goes_on a b e l f t = rw (← e, f, t) refl
-
-  pub laid_stream : (n p : ℕ) (ss : List Slot) → laid_from n p (entries_of ss) ≡ ss → are_stream n p ss ≡ true
-  unfolding are_stream entries_of ended
-  laid_stream n p [] h = chosen (leb below p) refl
-    where
-      chosen : (b : Bool) → leb below p ≡ b → leb below p ≡ true
-      chosen true q = q
-      chosen false q = let z : _ ∷ _ ≡ [] = sym (laid_next n p [] q) ∙ h in cc
-  laid_stream n p (s ∷ ss) h = chosen (laid_stream (n + 1) (passed s.kind p) ss) (ended p (entries_of (s ∷ ss))) refl
-    where
-      goes_on : (a b : Slot) → a ≡ b → (l : Level) → l ≡ entries_of ss → laid_from (n + 1) (passed b.kind p) l ≡ ss →
-          laid_from (n + 1) (passed a.kind p) (entries_of ss) ≡ ss
-      goes_on a b e l f t = rw (e, ← f) t
-
-      chosen : (laid_from (n + 1) (passed s.kind p) (entries_of ss) ≡ ss → are_stream (n + 1) (passed s.kind p) ss ≡ true) → (b : Bool) →
-          ended p (entries_of (s ∷ ss)) ≡ b →
-          (not (ended p (entries_of (s ∷ ss))) && same_slot s (wanted n p (entries_of (s ∷ ss))) && are_stream (n + 1) (passed s.kind p) ss) ≡ true
-      chosen again true q = let z : [] ≡ s ∷ ss = sym (laid_ended n p (entries_of (s ∷ ss)) q) ∙ h in cc
-      chosen again false q =
-          let es = entries_of (s ∷ ss) in
-          let all : wanted n p es ∷ laid_from (n + 1) (passed (wanted n p es).kind p) (left n p es) ≡ s ∷ ss = sym (laid_next n p es q) ∙ h in
-          let same : s ≡ wanted n p es = cc in
-          let tail : laid_from (n + 1) (passed (wanted n p es).kind p) (left n p es) ≡ ss = cc in
-          rw (q, slot_same s (wanted n p es) same, again (goes_on s (wanted n p es) same (left n p es) (left_behind n p s ss same) tail)) refl

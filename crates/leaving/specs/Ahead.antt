@@ -17,7 +17,8 @@ use Rattle.rules.specs.Tree.{Entry, Level}
 use Rattle.rules.specs.Level.{index, internal, fence_of}
 use Rattle.rules.specs.Finding.{normal_kind}
 use Rattle.layout.specs.Stream.{fenced_at, entry_next, laid_from, wanted, left, ended, passed}
-use Rattle.layout.specs.Stream.{laid_next, laid_ended, fence_passed, entry_passed, internal_passed}
+use Rattle.layout.specs.Stream.{laid_ended, fence_passed, entry_passed, internal_passed}
+use Rattle.layout.proofs.Stream.{laid_next}
 use Rattle.written.specs.Decided.{laid_whole}
 use Rattle.entries.specs.declared.Entry.{Entry as Read}
 use Rattle.entries.specs.Run.{Inside, place_in, entries_in, entry as indexed}

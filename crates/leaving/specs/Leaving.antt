@@ -23,7 +23,7 @@ use Rattle.layout.specs.Run.{words_of_all, words_length}
 use Rattle.layout.specs.Pages.{level_page, level_pages, page_used, page_unused, page_length, level_page_length}
 use Rattle.entries.specs.declared.Run.{Run}
 use Rattle.leaving.specs.Grouped.{first_agree, words_at, pages_grouped, page_grouped}
-use Rattle.leaving.specs.Stands.{count_wanted, numbered, stands, Holds, stands_compared}
+use Rattle.leaving.specs.Stands.{count_wanted, numbered, stands, Holds}
 
 -- The count of a page that has slots, and of an unused page.
 module _ (total most n : ℕ) where
@@ -41,7 +41,6 @@ module _ (total most n : ℕ) where
   count_unused h k = rw (le-leb 1 n h, le-leb total n k) refl
 
 -- Slots in words ------------------------------------------------------------------------------------------------------------------------------------
-
 -- The words of slots, slot by slot.
 words_used : (ss : List Slot) (rest : List ℕ) (n k : ℕ) → n < length ss → k < 3 → get_or (words_of_all ss ++ rest) (3 * n + k) 0 ≡ get_or (words_of (numbered ss n)) k 0
 unfolding concat words_of
@@ -130,7 +129,7 @@ module _ (slots : List Slot) (room : ℕ) where
             (run_unused (page_of slots p) 21 (n % 21) k u (omega (arith, page_length slots p)) (omega arith))
         by false q = rw (page_unused slots p (ltb-false p (pages_for (length slots)) q)) (get_or-replicate 64 (suc (3 * (n % 21) + k)) erased 0 (omega arith))
 
-  level_holds : Holds 21 (21 * room) slots (level_words slots room)
+  pub level_holds : Holds 21 (21 * room) slots (level_words slots room)
   level_holds = record {
     counts = level_count;
     used = λ n k j h b u e. level_used n k j h u e b;
@@ -148,25 +147,9 @@ module _ (slots : List Slot) (most : ℕ) (fits : length slots ≤ most) where
       let first : n ≡ 0 = sym (mod-eq_of_lt h) ∙ z in
       rw (div-eq_of_lt h) (omega (arith, count_used (length slots) most n (λ s. omega arith)))
 
-  head_holds : Holds most (most * 1) slots (length slots ∷ run_words slots most)
+  pub head_holds : Holds most (most * 1) slots (length slots ∷ run_words slots most)
   head_holds = record {
     counts = λ n h z. head_count_lem n (omega arith) z;
     used = λ n k j h b u e. rw (head_at n k j (omega arith) e) (run_used slots most n k u b);
     unused = λ n k j h b u e. rw (head_at n k j (omega arith) e) (run_unused slots most n k u b (omega arith));
   }
-
--- So the first slot that does not stand is where the words leave the writing.
-module _ (w : List ℕ) (run : Run) (slots : List Slot) where
-  pub level_leaving : (room : ℕ) → run.most ≡ slots_in_page →
-      first_not (stands w run slots) (slots_in_page * room) ≡ leaving w run.start slots_in_page room (level_words slots room)
-  unfolding leaving
-  level_leaving room e =
-      first_agree (stands w run slots) _ (21 * room) (stands_compared w run slots (level_words slots room) (21 * room) (rw e (level_holds slots room))) ∙
-      rw e (pages_grouped (λ j. eqb (get_or w (run.start + j) 0) (get_or (level_words slots room) j 0)) room)
-
-  pub head_leaving : 1 ≤ run.most → length slots ≤ run.most →
-      first_not (stands w run slots) (run.most * 1) ≡ leaving w run.start run.most 1 (length slots ∷ run_words slots run.most)
-  unfolding leaving
-  head_leaving some fits =
-      first_agree (stands w run slots) _ (run.most * 1) (stands_compared w run slots (length slots ∷ run_words slots run.most) (run.most * 1) (head_holds slots run.most fits)) ∙
-      page_grouped run.most (λ j. eqb (get_or w (run.start + j) 0) (get_or (length slots ∷ run_words slots run.most) j 0)) some

@@ -84,59 +84,9 @@ tag_agree tag k p =
     apart e = rw (e, kind_back k p, page_back k p) (rw (eq-eqb (kind_number k) (kind_number k) refl, eq-eqb p.0 p.0 refl) refl)
 
 -- So a slot is the one read exactly if its three words are those there.
-same_words : (w : List ℕ) (at : ℕ) (s : Slot) → same_slot (slot_at w at) s ≡
+pub same_words : (w : List ℕ) (at : ℕ) (s : Slot) → same_slot (slot_at w at) s ≡
     (eqb (get_or w at 0) s.pair.badge && eqb (get_or w (at + 1) 0) s.pair.floor.0 && eqb (get_or w (at + 2) 0) (tag_of s.kind s.page))
 unfolding same_slot slot_at
 same_words w at s =
     and_assoc (eqb (get_or w at 0) s.pair.badge && eqb (get_or w (at + 1) 0) s.pair.floor.0) _ _ ∙
     rw (tag_agree (get_or w (at + 2) 0) s.kind s.page) refl
-
--- A slot stands exactly if its words are those of the writing.
-module _ (w : List ℕ) (run : Run) (slots : List Slot) (words : List ℕ) (m : ℕ) (holds : Holds run.most m slots words) where
-  abbrev pub same_word : ℕ → Bool
-  same_word j = eqb (get_or w (run.start + j) 0) (get_or words j 0)
-
-  module _ (n : ℕ) (h : n < m) where
-    abbrev at : ℕ
-    at = words_at run.most n
-
-    count_compared : count_stands w run (length slots) n ≡ opens same_word run.most n
-    unfolding count_stands opens
-    count_compared = by (eqb (n % run.most) 0) refl
-      where
-        by : (b : Bool) → eqb (n % run.most) 0 ≡ b → ◌≡◌ {A = Bool}
-            (elim b [ true ↦ eqb (get_or w (run.start + 64 * (n / run.most)) 0) (count_wanted (length slots) run.most n) | false ↦ true ])
-            (elim b [ true ↦ same_word (64 * (n / run.most)) | false ↦ true ])
-        by true q = rw (holds.counts n h (eqb-true _ _ q)) refl
-        by false q = refl
-
-    -- Three words of a slot, and what the writing has there.
-    three : (a b c : ℕ) → get_or words at 0 ≡ a → get_or words (at + 1) 0 ≡ b → get_or words (at + 2) 0 ≡ c →
-        (eqb (get_or w (place_of run n) 0) a && eqb (get_or w (place_of run n + 1) 0) b && eqb (get_or w (place_of run n + 2) 0) c) ≡
-        (same_word at && same_word (at + 1) && same_word (at + 2))
-    unfolding place_of place_in words_at
-    three a b c x y z =
-        let first : place_of run n ≡ run.start + at = omega arith in
-        let second : place_of run n + 1 ≡ run.start + (at + 1) = omega arith in
-        let third : place_of run n + 2 ≡ run.start + (at + 2) = omega arith in
-        rw (x, y, z, second, third, first) refl
-
-    slot_compared : slot_stands w run slots n ≡ (same_word at && same_word (at + 1) && same_word (at + 2))
-    unfolding slot_stands unused_at words_of
-    slot_compared = by (ltb n (length slots)) refl
-      where
-        by : (b : Bool) → ltb n (length slots) ≡ b →
-            elim b [ true ↦ same_slot (slot_at w (place_of run n)) (numbered slots n) | false ↦ unused_at w (place_of run n) ] ≡
-            (same_word at && same_word (at + 1) && same_word (at + 2))
-        by true q =
-            let l = ltb-true n (length slots) q in
-            same_words w (place_of run n) (numbered slots n) ∙
-            three _ _ _ (holds.used n 0 at h l (omega arith) (omega arith)) (holds.used n 1 (at + 1) h l (omega arith) refl) (holds.used n 2 (at + 2) h l (omega arith) refl)
-        by false q =
-            let l = ltb-false n (length slots) q in
-            three _ _ _ (holds.unused n 0 at h l (omega arith) (omega arith)) (holds.unused n 1 (at + 1) h l (omega arith) refl)
-            (holds.unused n 2 (at + 2) h l (omega arith) refl)
-
-    pub stands_compared : stands w run slots n ≡ passes_at same_word run.most n
-    unfolding stands passes_at
-    stands_compared = rw (count_compared, slot_compared) refl

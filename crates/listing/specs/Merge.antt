@@ -46,7 +46,6 @@ past_all p [] = []
 past_all p (es ∷ t) = past p es ∷ past_all p t
 
 -- Levels that moved on -------------------------------------------------------------------------------------------------------------------
-
 pub past_here : (p : Pair) (e : Entry) (es : Level) → same p e.pair ≡ true → past p (e ∷ es) ≡ es
 unfolding past
 past_here p e es s = ap (λ (b : Bool). elim b [ true ↦ es | false ↦ e ∷ es ]) s
@@ -91,7 +90,7 @@ find_past p q (e ∷ es) d = picked (same p e.pair) refl
     picked true s = sym (find_on q e es (apart_not_same q e.pair (λ h. d (h ∙ sym (same_level p e.pair s)))))
     picked false s = refl
 
-held_past : (p q : Pair) (t : Tree) → (rank q ≡ rank p → ⊥) → held q (past_all p t) ≡ held q t
+pub held_past : (p q : Pair) (t : Tree) → (rank q ≡ rank p → ⊥) → held q (past_all p t) ≡ held q t
 unfolding past_all
 held_past p q [] d = refl
 held_past p q (es ∷ t) d = held_agree q (past p es) es (past_all p t) t (find_past p q es d) (held_past p q t d)
@@ -116,7 +115,6 @@ past_count p [] = omega arith
 past_count p (es ∷ t) = omega (arith, past_length p es, past_count p t)
 
 -- The pairs of a tree in order --------------------------------------------------------------------------------------------------------------
-
 -- Every pair's rank is at least n.
 unfoldable pub PairsFrom : ℕ → List Pair → Type 0
 PairsFrom n [] = Unit {0}
@@ -164,7 +162,6 @@ pairs_with_after p (e ∷ es) ps a =
     insert_after p e.pair (pairs_with es ps) a.0
 
 -- The merge ---------------------------------------------------------------------------------------------------------------------------------
-
 -- An entry that comes next: no pair of the tree is before it, it is the first of the tree's pairs, its kind decides, and some level has it.
 pub record NextIs (t : Tree) (f : Entry) : Type 0 where
   pub from : AllFrom (rank_of f) t
@@ -252,7 +249,6 @@ next_is_least n ((e ∷ es) ∷ t) f a q = picked (least_of t) refl (λ g. next_
         subst (λ (x : Entry). NextIs ((e ∷ es) ∷ t) x) same-entry (chosen g (ih g r) (before e.pair g.pair) (same e.pair g.pair) refl refl)
 
 -- The held pairs between two pairs, step by step ---------------------------------------------------------------------------------------------
-
 -- Whether an entry that comes next is listed: held, not before the first pair and not past the second.
 unfoldable pub wanted : Pair → Pair → Entry → Bool
 wanted first second f = f.normal && (not (before f.pair first) && not (before second f.pair))
@@ -263,46 +259,7 @@ passing_agree n s t h [] a = refl
 passing_agree n s t h (p ∷ ps) a =
     ap₂ (λ (b : Bool) (l : List Pair). elim b [ true ↦ p ∷ l | false ↦ l ]) (h p a.0) (passing_agree n s t h ps a.1)
 
-passing_none : (n : ℕ) (t : Pair → Bool) → ((p : Pair) → n ≤ rank p → t p ≡ false) → (ps : List Pair) → PairsFrom n ps → passing t ps ≡ []
+pub passing_none : (n : ℕ) (t : Pair → Bool) → ((p : Pair) → n ≤ rank p → t p ≡ false) → (ps : List Pair) → PairsFrom n ps → passing t ps ≡ []
 unfolding PairsFrom passing
 passing_none n t h [] a = refl
 passing_none n t h (p ∷ ps) a = passing_no t p ps (h p a.0) ∙ passing_none n t h ps a.1
-
-module _ (first second : Pair) where
-  -- The pair that comes next is listed if it is wanted, and then those of the levels that moved on.
-  pub held_between_next : (t : Tree) (f : Entry) → NextIs t f →
-      held_between first second t ≡
-      elim (wanted first second f) [ true ↦ f.pair ∷ held_between first second (past_all f.pair t) | false ↦ held_between first second (past_all f.pair t) ]
-  unfolding held_between wanted passing
-  held_between_next t f m =
-      let ends : Pair → Bool = λ p. not (before p first) && not (before second p) in
-      let after : List Pair = pairs_of (past_all f.pair t) in
-      ap (passing (λ p. held p t && ends p)) m.pairs ∙
-      ap₂ (λ (b : Bool) (l : List Pair). elim (b && ends f.pair) [ true ↦ f.pair ∷ l | false ↦ l ]) m.decides
-      (passing_agree (suc (rank_of f)) (λ p. held p t && ends p) (λ p. held p (past_all f.pair t) && ends p)
-      (λ p h. ap (λ (b : Bool). b && ends p) (sym (held_past f.pair p t (λ e. omega arith)))) after
-      (pairs_of_from (suc (rank_of f)) (past_all f.pair t) (all_from_past f.pair t m.from)))
-
-  pub held_between_listed : (t : Tree) (f : Entry) → NextIs t f → wanted first second f ≡ true →
-      held_between first second t ≡ f.pair ∷ held_between first second (past_all f.pair t)
-  held_between_listed t f m e =
-      held_between_next t f m ∙
-      ap (λ (b : Bool). elim b [ true ↦ f.pair ∷ held_between first second (past_all f.pair t) | false ↦ held_between first second (past_all f.pair t) ]) e
-
-  pub held_between_passed : (t : Tree) (f : Entry) → NextIs t f → wanted first second f ≡ false →
-      held_between first second t ≡ held_between first second (past_all f.pair t)
-  held_between_passed t f m e =
-      held_between_next t f m ∙
-      ap (λ (b : Bool). elim b [ true ↦ f.pair ∷ held_between first second (past_all f.pair t) | false ↦ held_between first second (past_all f.pair t) ]) e
-
-  -- A spent tree has none, nor one whose least pair is past the second.
-  pub held_between_none : (t : Tree) → least_of t ≡ none → held_between first second t ≡ []
-  unfolding held_between passing
-  held_between_none t e = ap (passing (λ p. held p t && (not (before p first) && not (before second p)))) (spent t e).pairs
-
-  pub held_between_over : (t : Tree) (f : Entry) → NextIs t f → before second f.pair ≡ true → held_between first second t ≡ []
-  unfolding held_between
-  held_between_over t f m b = passing_none (rank_of f) _ (λ p h. past_second p (below_before second p (omega (arith, h, before_below second f.pair b)))) (pairs_of t) (pairs_of_from (rank_of f) t m.from)
-    where
-      past_second : (p : Pair) → before second p ≡ true → (held p t && (not (before p first) && not (before second p))) ≡ false
-      past_second p e = and_false_right (held p t) _ (and_false_right (not (before p first)) _ (ap not e))

@@ -14,7 +14,7 @@ use Rattle.rules.specs.Finding.{held}
 use Rattle.rules.specs.Listing.{pairs_of, held_between}
 use Rattle.entries.specs.Ascending.{From, AllFrom, all_from_lower}
 use Rattle.entries.specs.Skip.{skip, skip_all, skip_on, skip_stops}
-use Rattle.listing.specs.Merge.{least_of, past, past_all, entry_count, NextIs, next_is_least, spent, all_from_past, wanted, held_between_passed, passing_agree, pairs_of_from}
+use Rattle.listing.specs.Merge.{least_of, past, past_all, entry_count, NextIs, next_is_least, spent, all_from_past, wanted, passing_agree, pairs_of_from}
 
 -- Where no entry is before a pair the levels from that pair on are the whole.
 skip_none : (p : Pair) (es : Level) → From (rank p) es → skip p es ≡ es
@@ -22,7 +22,7 @@ unfolding From skip
 skip_none p [] a = refl
 skip_none p (e ∷ es) a = skip_stops p e es (above_not_before e.pair p a.0)
 
-skip_all_none : (p : Pair) (t : Tree) → AllFrom (rank p) t → skip_all p t ≡ t
+pub skip_all_none : (p : Pair) (t : Tree) → AllFrom (rank p) t → skip_all p t ≡ t
 unfolding AllFrom skip_all
 skip_all_none p [] a = refl
 skip_all_none p (es ∷ t) a = ap₂ (λ (x : Level) (y : Tree). x ∷ y) (skip_none p es a.0) (skip_all_none p t a.1)
@@ -37,7 +37,7 @@ skip_gone p q (e ∷ es) b = by_pair (same q e.pair) refl
     by_pair true x = sym (skip_on p e es (below_before e.pair p (omega (arith, before_below q p b, same_level q e.pair x))))
     by_pair false x = refl
 
-skip_all_gone : (p q : Pair) (t : Tree) → before q p ≡ true → skip_all p (past_all q t) ≡ skip_all p t
+pub skip_all_gone : (p q : Pair) (t : Tree) → before q p ≡ true → skip_all p (past_all q t) ≡ skip_all p t
 unfolding skip_all past_all
 skip_all_gone p q [] b = refl
 skip_all_gone p q (es ∷ t) b = ap₂ (λ (x : Level) (y : Tree). x ∷ y) (skip_gone p q es b) (skip_all_gone p q t b)
@@ -47,40 +47,3 @@ pub record Keeps (first second : Pair) (t u : Tree) : Type 0 where
   pub pairs : held_between first second t ≡ held_between least second u
   pub ascends : AllFrom 0 u
   pub fewer : entry_count u ≤ entry_count t
-
-module _ (first second : Pair) where
-  -- Where no entry is before the first pair the range may as well begin at the least.
-  keeps_all : (t : Tree) → AllFrom (rank first) t → Keeps first second t (skip_all first t)
-  unfolding held_between
-  keeps_all t a = rw (skip_all_none first t a) (record {
-    pairs = passing_agree (rank first) (λ p. held p t && (not (before p first) && not (before second p))) (λ p. held p t && (not (before p least) && not (before second p)))
-        (λ p h. ap (λ (b : Bool). held p t && (not b && not (before second p)))
-        (above_not_before p first h ∙ sym (above_not_before p least (omega (arith, least_first))))) (pairs_of t) (pairs_of_from (rank first) t a);
-    ascends = all_from_lower 0 (rank first) t (omega arith) a;
-    fewer = le_refl _;
-  })
-
-  -- An entry before it is not listed.
-  before_first : (f : Entry) → before f.pair first ≡ true → wanted first second f ≡ false
-  unfolding wanted
-  before_first f b = and_false_right f.normal _ (ap (λ (b : Bool). not b && not (before second f.pair)) b)
-
-  keeps_by_size : (n : ℕ) (t : Tree) → entry_count t < n → AllFrom 0 t → Keeps first second t (skip_all first t)
-  keeps_by_size zero t h a = absurd (omega arith)
-  keeps_by_size (suc n) t h a = by_least (least_of t) refl (keeps_by_size n)
-    where
-      by_order : (f : Entry) → NextIs t f → (b : Bool) → before f.pair first ≡ b →
-          (entry_count (past_all f.pair t) < n → AllFrom 0 (past_all f.pair t) → Keeps first second (past_all f.pair t) (skip_all first (past_all f.pair t))) →
-          Keeps first second t (skip_all first t)
-      by_order f m true b ih =
-          let on = rw (skip_all_gone first f.pair t b) at
-          (ih (omega (arith, h, m.fewer)) (all_from_lower 0 (suc (rank_of f)) (past_all f.pair t) (omega arith) (all_from_past f.pair t m.from))) in
-          record { pairs = held_between_passed first second t f m (before_first f b) ∙ on.pairs; ascends = on.ascends; fewer = omega (arith, on.fewer, m.fewer) }
-      by_order f m false b ih = keeps_all t (all_from_lower (rank first) (rank_of f) t (not_before_above f.pair first b) m.from)
-
-      by_least : (l : Option Entry) → least_of t ≡ l → ((u : Tree) → entry_count u < n → AllFrom 0 u → Keeps first second u (skip_all first u)) → Keeps first second t (skip_all first t)
-      by_least none e ih = keeps_all t ((spent t e).from (rank first))
-      by_least (some f) e ih = by_order f (next_is_least 0 t f a e) (before f.pair first) refl (ih (past_all f.pair t))
-
-  pub range_kept : (t : Tree) → AllFrom 0 t → Keeps first second t (skip_all first t)
-  range_kept t a = keeps_by_size (suc (entry_count t)) t (omega arith) a

@@ -24,8 +24,8 @@ use Rattle.listing.specs.declared.Least.{Least}
 use Rattle.listing.specs.declared.Least.TheVariants.{Of, Empty}
 use Rattle.listing.specs.declared.Listed.{Listed}
 use Rattle.listing.specs.Merge.{lesser, lower, least_of, past, past_here, past_other, past_all, entry_count}
-use Rattle.listing.specs.Range.{Keeps, range_kept}
-use Rattle.listing.specs.Going.{Going, going_begins, going_done, going_over, going_puts, going_passes, going_falls}
+use Rattle.listing.specs.Range.{Keeps}
+use Rattle.listing.specs.Going.{Going, going_begins}
 
 -- The rules' result, of what the call returned and the slice's words after it.
 abbrev pub told : Listed → List ℕ → Wanted
@@ -67,47 +67,9 @@ module _ (w : List ℕ) (run : Run) (spot : ℕ) where
     past_stays p s = rw (← here) (sym (past_other p (entry e) (upcoming w run (spot + 1)) s))
 
 -- Four runs have few entries.
-few_in_four : (w : List ℕ) (rs : Runs) (n : ℕ) → AllInside rs n → entry_count (tree_in w rs) ≤ 32000000
+pub few_in_four : (w : List ℕ) (rs : Runs) (n : ℕ) → AllInside rs n → entry_count (tree_in w rs) ≤ 32000000
 unfolding entry_count tree_in
 few_in_four w rs n i = omega (arith, few_in w rs.head n i.head, few_in w rs.first n i.first, few_in w rs.second n i.second, few_in w rs.third n i.third)
-
--- A listing begins at the spots of its first pair, and lists from the least pair on there what is listed of the whole.
-module _ (w : List ℕ) (rs : Runs) (first second : Pair) (s : Spots) (slice : List ℕ) (at : upcomings w rs s ≡ skip_all first (tree_in w rs))
-    (ascend : levels_ascend (tree_in w rs) ≡ true) where
-  kept : Keeps first second (tree_in w rs) (upcomings w rs s)
-  kept = rw at (range_kept first second (tree_in w rs) (all_from_ascending (tree_in w rs) ascend))
-
-  pub spots_begin : (words : ℕ) → AllInside rs words → Going second 0 (upcomings w rs s) slice (list least second (upcomings w rs s) slice)
-  spots_begin words inside = going_begins second (upcomings w rs s) slice kept.ascends (omega (arith, kept.fewer, few_in_four w rs words inside))
-
-  pub range_told : list least second (upcomings w rs s) slice ≡ list first second (tree_in w rs) slice
-  unfolding list
-  range_told = rw kept.pairs
-
--- A listing at four spots, of which the least was found: done where there is none or it is past the second pair, else put or passed as the
--- spots move past its pair.
-module _ (w : List ℕ) (rs : Runs) (second : Pair) (n : ℕ) (s : Spots) (slice : List ℕ) (whole : Wanted) (so : Going second n (upcomings w rs s) slice whole)
-    (r : Least) (is : found r ≡ least_of (upcomings w rs s)) where
-  pub spots_done : r ≡ Empty → n < length slice / 2 → record { pairs = n; mark = 0; words = slice } ≡ whole
-  spots_done x h = going_done second n (upcomings w rs s) slice whole so (sym is ∙ ap found x) h
-
-  module _ (e : Entry) (x : r ≡ Of e) (b : Bool) (test : b ≡ before second e.pair) where
-    least_is : least_of (upcomings w rs s) ≡ some (entry e)
-    least_is = sym is ∙ ap found x
-
-    pub spots_over : b ≡ true → n < length slice / 2 → record { pairs = n; mark = 0; words = slice } ≡ whole
-    spots_over o h = going_over second n (upcomings w rs s) slice whole so (entry e) least_is (sym test ∙ o) h
-
-    module _ (t : Spots) (moved : upcomings w rs t ≡ past_all e.pair (upcomings w rs s)) where
-      pub spots_fall : entry_count (upcomings w rs t) < entry_count (upcomings w rs s)
-      spots_fall = rw moved (going_falls second n (upcomings w rs s) slice whole so (entry e) least_is)
-
-      pub spots_put : b ≡ false → e.normal ≡ true → n < length slice / 2 →
-          Going second (n + 1) (upcomings w rs t) (set (set slice (2 * n) e.pair.badge) (2 * n + 1) e.pair.floor.0) whole
-      spots_put o k h = rw moved (going_puts second n (upcomings w rs s) slice whole so (entry e) least_is k (sym test ∙ o) h)
-
-      pub spots_pass : b ≡ false → e.normal ≡ false → Going second n (upcomings w rs t) slice whole
-      spots_pass o k = rw moved (going_passes second n (upcomings w rs s) slice whole so (entry e) least_is k (sym test ∙ o))
 
 -- What is listed of the tree that the words hold is listed of the four runs.
 pub runs_listed : (g : Geometry) (w : List ℕ) → InRange g → (p q : Pair) (slice : List ℕ) → list p q (tree_in w (runs_of g w)) slice ≡ list p q (tree_of g w) slice

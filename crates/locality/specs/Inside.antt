@@ -5,7 +5,8 @@ use Rattle.std.specs.Prelude.{◌≡◌, refl, Bool, true, false, cond, List, []
 use Rattle.geometry.specs.declared.Geometry.{Geometry}
 use Rattle.geometry.specs.Geometry.{bottom, room}
 use Rattle.geometry.specs.Places.{page_place, store_words, words_in_page}
-use Rattle.geometry.specs.Apart.{page_inside, level_inside}
+use Rattle.geometry.specs.Apart.{level_inside}
+use Rattle.geometry.proofs.Apart.{page_inside}
 use Rattle.slot.specs.declared.Pair.{Pair}
 use Rattle.slot.specs.Slot.{slot_at}
 use Rattle.rules.specs.Sound.{directory_right, head_right, page_formed}

@@ -8,7 +8,8 @@ use Rattle.geometry.specs.Geometry.{room}
 use Rattle.geometry.specs.Places.{head_start, words_in_slot, words_in_page, head_room, level_start, store_words}
 use Rattle.geometry.specs.Bounds.{room_small}
 use Rattle.geometry.specs.Apart.{level_one, level_after, level_inside}
-use Rattle.geometry.specs.Lent.{Lent, head_room_at}
+use Rattle.geometry.specs.Lent.{Lent}
+use Rattle.geometry.proofs.Lent.{head_room_at}
 use Rattle.geometry.specs.Directory.{pages_of, level_place}
 use Rattle.entries.specs.Run.{Inside}
 use Rattle.entries.specs.Levels.{PagesWithin, runs_of, runs_inside}

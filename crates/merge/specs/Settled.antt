@@ -16,7 +16,8 @@ use Rattle.rules.specs.Store.{writing}
 use Rattle.rules.specs.Sound.{ascending}
 use Rattle.rules.specs.Good.{Cascading}
 use Rattle.entries.specs.Levels.{PagesWithin}
-use Rattle.good.specs.Cascade.{merged_state, merged_cascading, cascading_fits}
+use Rattle.good.specs.Cascade.{merged_state}
+use Rattle.good.proofs.Cascade.{merged_cascading, cascading_fits}
 use Rattle.merge.specs.Filling.{Outcome, outcome, room_at, settled, Settleable}
 use Rattle.merge.specs.Laid.{within_laid}
 use Rattle.merge.specs.Merged.{entries_laid, Merges, merged_laid}

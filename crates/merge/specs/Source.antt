@@ -18,7 +18,8 @@ use Rattle.geometry.specs.Geometry.{InRange, bottom, room}
 use Rattle.geometry.specs.Places.{level_start, store_words, work_words, pages_word, words_in_page, slots_in_page}
 use Rattle.geometry.specs.Bounds.{room_small, room_least}
 use Rattle.geometry.specs.Apart.{level_after, level_inside}
-use Rattle.geometry.specs.Lent.{Lent, room_inside}
+use Rattle.geometry.specs.Lent.{Lent}
+use Rattle.geometry.proofs.Lent.{room_inside}
 use Rattle.slot.specs.declared.Slot.{Slot}
 use Rattle.rules.specs.Level.{pages_for}
 use Rattle.rules.specs.Merging.{join}

@@ -12,8 +12,10 @@ use Rattle.rules.specs.Finding.{held}
 use Rattle.rules.specs.Merging.{Settled, toggle_head, edit, State, formatted, Outcome, refused, done, put, remove}
 use Rattle.rules.specs.Good.{Good, Cascading}
 use Rattle.rules.specs.Requests.{Request, putting, dropping, step, run, final, accepted, pair_in, RequestsFit}
-use Rattle.good.specs.Edit.{entry, put_cascading, drop_cascading}
-use Rattle.good.specs.Calls.{put_held, put_full, put_done, remove_missing, remove_done, put_good, remove_good}
+use Rattle.good.specs.Edit.{entry}
+use Rattle.good.proofs.Edit.{put_cascading, drop_cascading}
+use Rattle.good.specs.Calls.{put_held, put_full, put_done, remove_missing, remove_done}
+use Rattle.good.proofs.Calls.{put_good, remove_good}
 use Rattle.good.specs.Format.{formatted_good}
 
 -- A refusal that changes nothing, or an edit of the head from which a cascade may begin.

@@ -21,7 +21,7 @@ use Rattle.entries.specs.Ascending.{find_on, held_absent}
 use Rattle.good.specs.Alternate.{held_rank}
 use Rattle.promises.specs.Plain.{has, Rises, PairsFit, OfPairs, insert_rises, insert_has, insert_fits, passing_rises, passing_has, passing_fits, one_list}
 use Rattle.promises.specs.Answers.{answers, set_after}
-use Rattle.promises.specs.Sets.{Holds, run_holds}
+use Rattle.promises.specs.Sets.{Holds}
 
 -- The pairs that a tree has entries of: ascending, words, and every held one among them.
 pairs_with_rise : (es : Level) (ps : List Pair) → Rises 0 ps → Rises 0 (pairs_with es ps)
@@ -99,8 +99,3 @@ module _ (g : Geometry) (s : State) (set : List Pair) (holds : Holds g s set) wh
           passing_has wanted (λ p q e. ap₂ ◌&&◌ (held_rank p q s.tree (same_level p q e)) (between_of_pairs first second p q e)) (pairs_of s.tree) p ∙
           both (has p (pairs_of s.tree)) (held p s.tree) (between first second p) (held_has p s.tree) ∙
           ap (λ (b : Bool). b && between first second p) (holds.members p) ∙ sym (passing_has (between first second) (between_of_pairs first second) set p)
-
--- So after any requests from a formatted store.
-pub run_lists : (g : Geometry) → InRange g → (rs : List Request) → RequestsFit rs → (first second : Pair) →
-    held_between first second (final (formatted g) (run g (formatted g) rs)).tree ≡ passing (between first second) (set_after [] (answers (most g) [] rs))
-run_lists g fit rs w = holds_lists g (final (formatted g) (run g (formatted g) rs)) (set_after [] (answers (most g) [] rs)) (run_holds g fit rs w)

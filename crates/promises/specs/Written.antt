@@ -24,7 +24,7 @@ use Rattle.stored.specs.Sound.{sound_written, written_sound}
 use Rattle.finding.specs.Asked.{decider}
 use Rattle.finding.specs.Formed.{directory_right_lem, head_right_lem, page_formed_lem}
 use Rattle.finding.specs.Walked.{walked_finds}
-use Rattle.good.specs.Cascade.{good_fits}
+use Rattle.good.proofs.Cascade.{good_fits}
 
 -- A store that passes is the writing of the state that its words hold, and that state is good.
 pub sound_good : (g : Geometry) (w : List ℕ) → InRange g → geometry_of w ≡ g → length w ≡ store_words g → WordsFit w → fault g w ≡ Sound →

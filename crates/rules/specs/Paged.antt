@@ -39,13 +39,7 @@ by_paging Q none fence_first_lem opening within j last (s ∷ ss) =
     chosen false e a b c = opened (eqb j 0) refl e b c
 
 -- Its internal fences have no entries.
-entries_behind : (s : Slot) (us vs : List Slot) → entries_of us ≡ entries_of vs → entries_of (s ∷ us) ≡ entries_of (s ∷ vs)
+pub entries_behind : (s : Slot) (us vs : List Slot) → entries_of us ≡ entries_of vs → entries_of (s ∷ us) ≡ entries_of (s ∷ vs)
 unfolding entries_of
 entries_behind s us vs e =
     ap (λ (es : Level). elim (fence s) as (λ _. Level) [ true ↦ es | false ↦ record { pair = s.pair; normal = normal_kind s.kind } ∷ es ]) e
-
-pub entries_paged : (j last : ℕ) (ss : List Slot) → entries_of (paged j last ss) ≡ entries_of ss
-unfolding entries_of internal
-entries_paged =
-    by_paging (λ j last ss row. entries_of row ≡ entries_of ss) (λ j last. refl) (λ j last s ss row k ih. entries_behind s row ss ih)
-    (λ last s ss row k ih. entries_behind s row ss ih) (λ j last s ss row k n ih. entries_behind s row ss ih)

@@ -81,13 +81,6 @@ by_weaving Q none entry_IsFirst fence_first_lem (e ∷ es) fs = placed (by_weavi
         chosen true c ih = entry_IsFirst e es (f ∷ fs) (weave es (f ∷ fs)) c (rest (f ∷ fs))
         chosen false c ih = fence_first_lem e es f fs (place e (weave es) fs) c ih
 
--- A test that the entries' slots and the fences pass.
-pub all_woven : (t : Slot → Bool) → ((e : Entry) → t (index e) ≡ true) → (es : Level) (fs : List Slot) → all t fs ≡ true → all t (weave es fs) ≡ true
-all_woven t h =
-    by_weaving (λ es fs row. all t fs ≡ true → all t row ≡ true) (λ fs a. a)
-    (λ e es fs row c ih a. all_join t (index e) row (h e) (ih a))
-    (λ e es f fs row c ih a. all_join t f row (all_first t f fs a) (ih (all_rest t f fs a)))
-
 -- The entries are those given.
 pub entries_fence : (s : Slot) (ss : List Slot) → fence s ≡ true → entries_of (s ∷ ss) ≡ entries_of ss
 unfolding entries_of
@@ -97,30 +90,16 @@ pub entries_index : (e : Entry) (ss : List Slot) → entries_of (index e ∷ ss)
 unfolding entries_of
 entries_index e ss = rw (index_entry e, entries_of) (ap (λ (f : Entry). f ∷ entries_of ss) (index_again e))
 
-entries_none : (fs : List Slot) → all fence fs ≡ true → entries_of fs ≡ []
+pub entries_none : (fs : List Slot) → all fence fs ≡ true → entries_of fs ≡ []
 unfolding entries_of
 entries_none [] a = refl
 entries_none (f ∷ fs) a = entries_fence f fs (all_first fence f fs a) ∙ entries_none fs (all_rest fence f fs a)
-
-pub entries_woven : (es : Level) (fs : List Slot) → all fence fs ≡ true → entries_of (weave es fs) ≡ es
-entries_woven =
-    by_weaving (λ es fs row. all fence fs ≡ true → entries_of row ≡ es) entries_none
-    (λ e es fs row c ih a. entries_index e row ∙ ap (λ (l : Level). e ∷ l) (ih a))
-    (λ e es f fs row c ih a. entries_fence f row (all_first fence f fs a) ∙ ih (all_rest fence f fs a))
 
 -- So are the fences.
 pub pages_fence : (s : Slot) (ss : List Slot) → fence s ≡ true → fence_pages (s ∷ ss) ≡ s.page.0 ∷ fence_pages ss
 unfolding fence_pages
 pages_fence s ss e = rw (passing_yes fence s ss e)
 
-pages_index : (e : Entry) (ss : List Slot) → fence_pages (index e ∷ ss) ≡ fence_pages ss
+pub pages_index : (e : Entry) (ss : List Slot) → fence_pages (index e ∷ ss) ≡ fence_pages ss
 unfolding fence_pages
 pages_index e ss = rw (passing_no fence (index e) ss (index_entry e))
-
-pub fence_pages_woven : (es : Level) (fs : List Slot) → all fence fs ≡ true → fence_pages (weave es fs) ≡ fence_pages fs
-fence_pages_woven =
-    by_weaving (λ es fs row. all fence fs ≡ true → fence_pages row ≡ fence_pages fs) (λ fs a. refl)
-    (λ e es fs row c ih a. pages_index e row ∙ ih a)
-    (λ e es f fs row c ih a.
-    let k = all_first fence f fs a in
-    pages_fence f row k ∙ ap (λ (l : List ℕ). f.page.0 ∷ l) (ih (all_rest fence f fs a)) ∙ sym (pages_fence f fs k))

@@ -7,7 +7,8 @@ use Rattle.geometry.specs.Geometry.{InRange, bottom, most}
 use Rattle.geometry.specs.Places.{level_start, plan_of, store_words, work_words, directory_words}
 use Rattle.geometry.specs.Bounds.{PlanSmall, capacity_least, capacity_small, room_least}
 use Rattle.geometry.specs.Apart.{plan_small, level_inside}
-use Rattle.geometry.specs.Lent.{Lent, lent, most_at, starts_at, plan_words}
+use Rattle.geometry.specs.Lent.{Lent, lent, plan_words}
+use Rattle.geometry.proofs.Lent.{most_at, starts_at}
 use Rattle.sequences.specs.declared.Sequence.{Sequence}
 
 -- M is 1 to 32,768, and the directory and the head lie inside a store of `words` words.

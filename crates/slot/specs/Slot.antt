@@ -18,13 +18,3 @@ slot_at words i = record {
 -- The three words of a slot.
 unfoldable pub words_of : Slot → List ℕ
 words_of s = s.pair.badge ∷ s.pair.floor.0 ∷ tag_of s.kind s.page ∷ []
-
--- The words of the slot that was read are the words that it was read from.
-pub words_again : (words : List ℕ) (i : ℕ) → i + 3 ≤ length words → words_of (slot_at words i) ≡ slice i (i + 3) words
-unfolding slot_at words_of
-words_again words i h =
-    let a : slice i (i + 3) words ≡ get_or words i 0 ∷ slice (suc i) (i + 3) words = slice-cons i (i + 3) words 0 (omega arith) h in
-    let b : slice (suc i) (i + 3) words ≡ get_or words (suc i) 0 ∷ slice (suc (suc i)) (i + 3) words = slice-cons (suc i) (i + 3) words 0 (omega arith) h in
-    let d : slice (suc (suc i)) (i + 3) words ≡ get_or words (suc (suc i)) 0 ∷ slice (suc (suc (suc i))) (i + 3) words =
-    slice-cons (suc (suc i)) (i + 3) words 0 (omega arith) h in
-    rw (tag_again (get_or words (i + 2) 0), a, b, d, add-one i, add-two i, add-three i, slice_empty (suc (suc (suc i))) words)

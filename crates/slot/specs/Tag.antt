@@ -73,8 +73,3 @@ page_back k p =
 pub tag_again : (tag : ℕ) → tag_of (kind_of tag) (page_of tag) ≡ tag
 unfolding kind_of page_of tag_of
 tag_again tag = rw (named_kind (tag % 4) (omega arith)) (omega arith)
-
--- The bench table's case 9: a fence to page 300 has tag 1202, and reads back as 300.
-pub page_300 : (tag_of External (record { 0 = 300 }) ≡ 1202) × (page_of 1202 ≡ record { 0 = 300 })
-unfolding tag_of page_of
-page_300 = (refl, page_back External (record { 0 = 300 }))

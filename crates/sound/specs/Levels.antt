@@ -9,7 +9,8 @@ use Rattle.geometry.specs.declared.Geometry.{Geometry}
 use Rattle.geometry.specs.declared.Plan.{Plan}
 use Rattle.geometry.specs.Geometry.{bottom, most}
 use Rattle.geometry.specs.Places.{head_room, slots_in_page}
-use Rattle.geometry.specs.Lent.{Lent, capacities_at}
+use Rattle.geometry.specs.Lent.{Lent}
+use Rattle.geometry.proofs.Lent.{capacities_at}
 use Rattle.slot.specs.declared.Pair.{Pair}
 use Rattle.fault.specs.declared.Fault.{Fault}
 use Rattle.fault.specs.declared.Judged.{Judged}

@@ -12,7 +12,8 @@ use Rattle.laws.specs.Sets.{part_before, part_behind, part_stored}
 use Rattle.geometry.specs.declared.Geometry.{Geometry}
 use Rattle.geometry.specs.Geometry.{InRange, room}
 use Rattle.geometry.specs.Places.{live_word, pages_word, head_count_word, head_start, head_room, level_start, directory_words}
-use Rattle.geometry.specs.Apart.{level_after, level_before, level_inside}
+use Rattle.geometry.specs.Apart.{level_after, level_inside}
+use Rattle.geometry.proofs.Apart.{level_before}
 use Rattle.slot.specs.declared.Slot.{Slot}
 use Rattle.rules.specs.Level.{pages_for}
 use Rattle.rules.specs.Store.{run_words, level_words, page_count, directory, laid_out}

@@ -7,8 +7,9 @@ use Rattle.slot.specs.declared.Slot.{Slot}
 use Rattle.rules.specs.Tree.{Level, Tree, level}
 use Rattle.rules.specs.Level.{index, pages_for, first_among, fences, over, lay_on, laid, head_on, slots_of}
 use Rattle.rules.specs.Sound.{entries_of}
-use Rattle.rules.specs.Woven.{fences_all, entries_index, entries_woven}
-use Rattle.rules.specs.Paged.{entries_paged}
+use Rattle.rules.specs.Woven.{fences_all, entries_index}
+use Rattle.rules.proofs.Woven.{entries_woven}
+use Rattle.rules.proofs.Paged.{entries_paged}
 
 -- Entries that stand alone, or over the slots below, are read back.
 index_entries : (es : Level) → entries_of (map index es) ≡ es

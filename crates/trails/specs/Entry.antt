@@ -30,7 +30,7 @@ no_entry_of asked run = all (λ s. not (is_entry_of asked s)) run
 unfoldable pub slot_reached : List Slot → ℕ → Slot
 slot_reached run reach = get_or run (reach - 1) (external least 0)
 
-slot_reached_lem : (run : List Slot) (j : ℕ) → slot_reached run (suc j) ≡ get_or run j (external least 0)
+pub slot_reached_lem : (run : List Slot) (j : ℕ) → slot_reached run (suc j) ≡ get_or run j (external least 0)
 unfolding slot_reached
 slot_reached_lem run j = ap (λ (k : ℕ). get_or run k (external least 0)) (omega arith)
 
@@ -42,7 +42,7 @@ pub record ReachesEntry (asked : Pair) (run : List Slot) (reach : ℕ) (held : B
   pub kind : normal_kind (slot_reached run reach).kind ≡ held
 
 -- Stepping back decides nothing.
-steps_undecided : (ss : List Slot) (b : Bool) → step_back ss ≡ decided b → ⊥
+pub steps_undecided : (ss : List Slot) (b : Bool) → step_back ss ≡ decided b → ⊥
 unfolding step_back
 steps_undecided [] b e = let z : ◌≡◌ {A = ℕ} 0 1 = cc in omega arith
 steps_undecided (s ∷ ss) b e = by (fence_kind s.kind) e (steps_undecided ss b)
@@ -50,98 +50,3 @@ steps_undecided (s ∷ ss) b e = by (fence_kind s.kind) e (steps_undecided ss b)
     by : (f : Bool) → elim f as (λ x. Told) [ true ↦ follow s.page.0 | false ↦ step_back ss ] ≡ decided b → (step_back ss ≡ decided b → ⊥) → ⊥
     by true e rest = let z : ◌≡◌ {A = ℕ} 0 1 = cc in omega arith
     by false e rest = rest e
-
-module _ (asked : Pair) where
-  abbrev up_to : Slot → Bool
-  up_to s = not (before asked s.pair)
-
-  -- An index entry of the pair has its pair and is no fence.
-  entry_own : (s : Slot) → is_entry_of asked s ≡ true → (same asked s.pair ≡ true) × (fence_kind s.kind ≡ false)
-  unfolding is_entry_of
-  entry_own s e = (
-    and_left (same asked s.pair) (not (fence_kind s.kind)) e,
-    not-true (fence_kind s.kind) (and_right (same asked s.pair) (not (fence_kind s.kind)) e),
-  )
-
-  -- What the last slot at most the pair tells.
-  module _ (s : Slot) (back : List Slot) where
-    entry_tells : is_entry_of asked s ≡ true → tell_from asked (s ∷ back) ≡ decided (normal_kind s.kind)
-    unfolding is_entry_of tell_from
-    entry_tells e = rw (e, tell_from)
-
-    other_tells : is_entry_of asked s ≡ false → tell_from asked (s ∷ back) ≡ step_back (s ∷ back)
-    unfolding is_entry_of tell_from
-    other_tells e = rw (e, tell_from)
-
-    -- If it decides, it is an index entry of the pair.
-    decided_entry : (b : Bool) → tell_from asked (s ∷ back) ≡ decided b → (is_entry_of asked s ≡ true) × (normal_kind s.kind ≡ b)
-    decided_entry b e = by (is_entry_of asked s) refl
-      where
-        by : (x : Bool) → is_entry_of asked s ≡ x → (is_entry_of asked s ≡ true) × (normal_kind s.kind ≡ b)
-        by true f = let z : decided (normal_kind s.kind) ≡ decided b = sym (entry_tells f) ∙ e in (f, cc)
-        by false f = absurd (steps_undecided (s ∷ back) b (sym (other_tells f) ∙ e))
-
-  -- A slot above the pair is none.
-  above_no_entry : (s : Slot) → before asked s.pair ≡ true → is_entry_of asked s ≡ false
-  above_no_entry s a = by (is_entry_of asked s) refl
-    where
-      by : (x : Bool) → is_entry_of asked s ≡ x → x ≡ false
-      by true e = absurd (omega (arith, before_below asked s.pair a, same_level asked s.pair (entry_own s e).0))
-      by false e = refl
-
-  none_above : (ss : List Slot) → passing up_to ss ≡ [] → no_entry_of asked ss ≡ true
-  unfolding no_entry_of all
-  none_above [] e = refl
-  none_above (s ∷ ss) e = by (before asked s.pair) refl (none_above ss)
-    where
-      by : (x : Bool) → before asked s.pair ≡ x → (passing up_to ss ≡ [] → no_entry_of asked ss ≡ true) → no_entry_of asked (s ∷ ss) ≡ true
-      by true a rest = all_join (λ (s : Slot). not (is_entry_of asked s)) s ss (ap not (above_no_entry s a)) (rest (sym (passing_no up_to s ss (ap not a)) ∙ e))
-      by false a rest = absurd (let z = ap length (sym (passing_yes up_to s ss (ap not a)) ∙ e) in omega (arith, z))
-
-  -- Slots in order that follow those of `back`, the last one first. An index entry of the pair would be the last at most it, and decide.
-  none_left : (ss back : List Slot) → in_order ss ≡ true → ((b : Bool) → tell_from asked (reverse_aux (passing up_to ss) back) ≡ decided b → ⊥) →
-      no_entry_of asked ss ≡ true
-  unfolding no_entry_of all
-  none_left [] back o undecided = refl
-  none_left (s ∷ ss) back o undecided = by (before asked s.pair) refl (none_left ss (s ∷ back) (order_rest s ss o))
-    where
-      Undecided : List Slot → Type 0
-      Undecided told = (b : Bool) → tell_from asked told ≡ decided b → ⊥
-
-      no_entry : Undecided (reverse_aux (passing up_to ss) (s ∷ back)) → (x : Bool) → is_entry_of asked s ≡ x → not x ≡ true
-      no_entry u true e =
-          let own = entry_own s e in
-          absurd (u (normal_kind s.kind) (rw (none_after_entry asked s ss o own.0 own.1) (entry_tells s back e)))
-      no_entry u false e = refl
-
-      by : (x : Bool) → before asked s.pair ≡ x → (Undecided (reverse_aux (passing up_to ss) (s ∷ back)) → no_entry_of asked ss ≡ true) →
-          no_entry_of asked (s ∷ ss) ≡ true
-      by true a rest = none_above (s ∷ ss) (none_at_most asked s ss o a)
-      by false a rest =
-          let u : Undecided (reverse_aux (passing up_to ss) (s ∷ back)) = λ b e. undecided b (rw (passing_yes up_to s ss (ap not a)) e) in
-          all_join (λ (s : Slot). not (is_entry_of asked s)) s ss (no_entry u (is_entry_of asked s) refl) (rest u)
-
-  -- So of slots in order: where they decide, the slot reached is the entry; else there is none.
-  module _ (run : List Slot) (order : in_order run ≡ true) where
-    pub undecided_none : ((b : Bool) → tell asked run ≡ decided b → ⊥) → no_entry_of asked run ≡ true
-    unfolding tell at_most
-    undecided_none u = none_left run [] order u
-
-    pub decided_reaches : (b : Bool) → tell asked run ≡ decided b → ReachesEntry asked run (length (passing (λ s. not (before asked s.pair)) run)) b
-    unfolding tell at_most tell_from
-    decided_reaches b e = by (length (passing up_to run)) refl
-      where
-        first_ones : passing up_to run ≡ take (length (passing up_to run)) run
-        first_ones = at_most_first asked run order
-
-        by : (r : ℕ) → length (passing up_to run) ≡ r → ReachesEntry asked run (length (passing up_to run)) b
-        by zero n = absurd (let f : nothing ≡ decided b = rw (first_ones, n) at e in let z : ◌≡◌ {A = ℕ} 0 1 = cc in omega arith)
-        by (suc j) n = rw n (record { reach_least = omega arith; reach_most = small; entry = told.0; kind = told.1 })
-          where
-            small : suc j ≤ length run
-            small = rw n at (passing_small up_to run)
-
-            told : (is_entry_of asked (slot_reached run (suc j)) ≡ true) × (normal_kind (slot_reached run (suc j)).kind ≡ b)
-            told =
-                rw (slot_reached_lem run j)
-                (decided_entry (get_or run j (external least 0)) (reverse (take j run)) b (rw (first_ones, n, reverse_take run j (external least 0) small) at e))

@@ -14,10 +14,10 @@ use Rattle.rules.specs.Good.{Good}
 use Rattle.walk.specs.Trail.{trail, pages_below}
 use Rattle.finding.specs.Asked.{decider, absent_above_decider, met_at_decider}
 use Rattle.finding.specs.Walked.{walked_reads}
-use Rattle.good.specs.Cascade.{good_fits}
+use Rattle.good.proofs.Cascade.{good_fits}
 use Rattle.promises.specs.Written.{good_reads, good_walks}
 use Rattle.trails.specs.Entry.{ReachesEntry}
-use Rattle.trails.specs.Decides.{line_at, run_at, deciding_line}
+use Rattle.trails.specs.Decides.{line_at, run_at}
 
 -- No level above the deciding one has an entry of the pair. Where a level decides, its entry of the pair tells whether the pair is held, and there the
 -- trail ends: its last line is of that level and reached an index entry of the pair, of that entry's kind.
@@ -27,15 +27,3 @@ pub record Topmost (g : Geometry) (s : State) (p : Pair) : Type 0 where
   pub trail_ends : decider p s.tree < g.levels →
       (length (trail g (writing g s) p) ≡ suc (decider p s.tree)) ×
       ReachesEntry p (run_at g (writing g s) p (decider p s.tree)) (line_at g (writing g s) p (decider p s.tree)).reach (held p s.tree)
-
-module _ (g : Geometry) (s : State) (p : Pair) (fit : InRange g) (good : Good g s) where
-  pub topmost : Topmost g s p
-  topmost = record {
-    none_above = absent_above_decider p s.tree;
-    entry_here = λ h. met_at_decider p s.tree (omega (arith, h, good.levels));
-    trail_ends = deciding_line g (writing g s) p (held p s.tree) (decider p s.tree) (good_walks g s fit good p);
-  }
-
-  -- The pages that the trail reads below the head are those of the walk on slots.
-  pub trail_reads : pages_below (trail g (writing g s) p) ≡ (ask p (slots_of s.tree)).read
-  trail_reads = walked_reads g s (writing g s) fit good (good_fits g fit s good) (good_reads g s fit good) p

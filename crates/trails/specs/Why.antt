@@ -10,7 +10,7 @@ use Rattle.opening.specs.Opening.{opened_range}
 use Rattle.call_ask.specs.Ask.{walk_reply, ask_of, ask_found}
 use Rattle.call_why.specs.Why.{why_lines}
 use Rattle.trails.specs.Entry.{ReachesEntry, no_entry_of}
-use Rattle.trails.specs.Decides.{line_at, run_at, found_lines, deciding_line, no_entry_above, none_decides}
+use Rattle.trails.specs.Decides.{line_at, run_at}
 
 -- The lines are the trail of the walk. Where a level decides, the last line is that level's, and the slot that it names is an index entry of the
 -- pair, normal exactly if the pair is held. No slot of a run that was read above the deciding level is one; where none decides, none that was read.
@@ -21,23 +21,3 @@ pub record WhyShows (w : List ℕ) (pair : Pair) (held : Bool) (level : ℕ) : T
   pub none_above : (i : ℕ) → i < length (why_lines w pair) → i < level → no_entry_of pair (run_at (geometry_of w) w pair i) ≡ true
   pub none_decides_here : (geometry_of w).levels ≤ level →
       (held ≡ false) × ((i : ℕ) → i < length (why_lines w pair) → no_entry_of pair (run_at (geometry_of w) w pair i) ≡ true)
-
-module _ (w : List ℕ) (pair : Pair) (held : Bool) (level : ℕ) (told : ask_of w pair ≡ walk_reply (Found held level)) where
-  abbrev g : Geometry
-  g = geometry_of w
-
-  why_lines_lem : why_lines w pair ≡ trail (geometry_of w) w pair
-  unfolding why_lines
-  why_lines_lem = let found = ask_found w pair held level told in rw found.0 (found_lines g w pair held level found.1)
-
-  pub why_shows : WhyShows w pair held level
-  why_shows =
-      let found = ask_found w pair held level told in
-      let walk = found.1 in record {
-        lines = why_lines_lem;
-        decides = λ h. rw why_lines_lem (deciding_line g w pair held level walk h);
-        none_above = λ i h b. no_entry_above g w pair held level walk i (rw why_lines_lem at h) b;
-        none_decides_here = λ h.
-            let none = none_decides g w pair held level walk (omega (arith, (opened_range w found.0).levels_least)) h in
-            (none.0, λ i b. none.1 i (rw why_lines_lem at b));
-      }

@@ -18,7 +18,8 @@ use Rattle.rules.specs.Store.{level_words}
 use Rattle.entries.specs.Run.{entries_in}
 use Rattle.written.specs.Decided.{laid_whole}
 use Rattle.layout.specs.Stream.{cut, fenced_at, entry_next, fences_from, laid_from, wanted, left, ended}
-use Rattle.layout.specs.Stream.{laid_next, laid_ended, fence_passed, entry_passed, internal_passed}
+use Rattle.layout.specs.Stream.{laid_ended, fence_passed, entry_passed, internal_passed}
+use Rattle.layout.proofs.Stream.{laid_next}
 use Rattle.good.specs.Pages.{weave_length}
 use Rattle.writer.specs.declared.Source.{Source}
 use Rattle.writer.specs.Source.{first_below, level_from}

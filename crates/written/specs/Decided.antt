@@ -21,7 +21,8 @@ use Rattle.rules.specs.Sound.{slots_from, entries_of, ascending}
 use Rattle.written.specs.declared.Row.{Row}
 use Rattle.written.specs.Written.{level_written, head_written, LevelInside, HeadInside}
 use Rattle.layout.specs.Words.{first_pair, laid_over, level_run}
-use Rattle.layout.specs.Stream.{cut, fences_from, laid_from, are_stream, stream_laid, laid_stream}
+use Rattle.layout.specs.Stream.{cut, fences_from, laid_from, are_stream}
+use Rattle.layout.proofs.Stream.{stream_laid, laid_stream}
 use Rattle.layout.specs.Run.{run_written, run_slots, run_rest}
 use Rattle.layout.specs.Pages.{slots_length, flat_slot, last_count, row_length, used_end, Filled, Unused, level_flat, level_written_lem, level_filled, level_read, level_rest}
 use Rattle.written.specs.Row.{RowInside, row_place, row_slot, row_slots, first_below, row_written}

@@ -1,5 +1,5 @@
 -- `test_found` makes the tests of a put or of a drop with live pairs and their most. Assumes nothing.
-use Rattle.geometry.specs.Lent.{most_at}
+use Rattle.geometry.proofs.Lent.{most_at}
 use Rattle.call_put.specs.Tested.{tested_of}
 use borrow.Author.Rules.{rules}
 use Rattle.call_put.proofs.test_found.Goals as goal

@@ -1,7 +1,7 @@
 -- `directory_right` tests the directory, from what `pages_right` ensures of each level. Assumes nothing.
 use Rattle.laws.specs.Lists.{all_three}
 use Rattle.rules.specs.Sound.{directory_right, pages_right}
-use Rattle.geometry.specs.Lent.{most_at}
+use Rattle.geometry.proofs.Lent.{most_at}
 use borrow.Author.Rules.{rules}
 use Rattle.form.proofs.directory_right.Goals as goal
 

@@ -1,5 +1,5 @@
 -- `head_at` gives what the head is tested by. Assumes nothing.
-use Rattle.geometry.specs.Lent.{head_room_at}
+use Rattle.geometry.proofs.Lent.{head_room_at}
 use Rattle.geometry.specs.Directory.{place_pages}
 use Rattle.form.specs.Passes.{head_at}
 use borrow.Author.Rules.{rules}

@@ -1,6 +1,6 @@
 -- `page_at` gives where a page stands, inside the store, and what its form is tested by. Assumes nothing.
 use Prim.Native.Nat.{◌+◌}
-use Rattle.geometry.specs.Lent.{page_at_lem}
+use Rattle.geometry.proofs.Lent.{page_at_lem}
 use Rattle.geometry.specs.Directory.{place_pages}
 use Rattle.form.specs.Passes.{page_at}
 use borrow.Author.Rules.{rules}

@@ -1,6 +1,6 @@
 -- `pages_right` tests the page count of a level against its room. Assumes nothing.
 use borrow.Author.Tests.{lt-ltb, le-ltb}
-use Rattle.geometry.specs.Lent.{rooms_at}
+use Rattle.geometry.proofs.Lent.{rooms_at}
 use Rattle.rules.specs.Sound.{pages_right}
 use borrow.Author.Rules.{rules}
 use Rattle.form.proofs.pages_right.Goals as goal

@@ -2,7 +2,8 @@
 use Rattle.geometry.specs.Directory.{place_start}
 use Prim.Native.Nat.{◌-◌}
 use mathlib.Core.Path.{sym, ◌∙◌}
-use Rattle.geometry.specs.Lent.{lent, head_lent, head_least}
+use Rattle.geometry.specs.Lent.{lent}
+use Rattle.geometry.proofs.Lent.{head_lent, head_least}
 use Rattle.format.specs.Formatting.{Formatting, first_page_written, format_begins, format_goes_on, format_ends, start_inside}
 use borrow.Author.Rules.{rules}
 use native.Mathlib.Omega.{arith}

@@ -1,5 +1,5 @@
 -- `level_place` gives a level's place: of one that exists by `place_lent`, below the bottom by `place_past`. Assumes nothing.
-use Rattle.geometry.specs.Lent.{place_lent, place_past}
+use Rattle.geometry.proofs.Lent.{place_lent, place_past}
 use native.Mathlib.Omega.{arith}
 use borrow.Author.Rules.{rules}
 use Rattle.geometry.proofs.level_place.Goals as goal

@@ -2,7 +2,7 @@
 use mathlib.Core.Path.{◌∙◌}
 use Rattle.entries.specs.Levels.{runs_inside}
 use Rattle.entries.specs.Ascending.{runs_ascend}
-use Rattle.kinds.specs.Told.{across_wrong, across_live}
+use Rattle.kinds.proofs.Told.{across_wrong, across_live}
 use borrow.Author.Rules.{rules}
 use Rattle.laws.specs.Clauses.{two_clauses}
 use Rattle.kinds.proofs.kinds_fault.Goals as goal

@@ -6,8 +6,9 @@ use Rattle.slot.specs.Pair.{least}
 use Rattle.rules.specs.Listing.{list as listing}
 use Rattle.entries.specs.Spot.{upcomings, AllStanding}
 use Rattle.listing.specs.Merge.{entry_count}
-use Rattle.listing.specs.Going.{Going, going_full}
-use Rattle.listing.specs.Spots.{spots_begin, range_told, spots_done, spots_over, spots_fall, spots_put, spots_pass}
+use Rattle.listing.specs.Going.{Going}
+use Rattle.listing.proofs.Going.{going_full}
+use Rattle.listing.proofs.Spots.{spots_begin, range_told, spots_done, spots_over, spots_fall, spots_put, spots_pass}
 use borrow.Author.Rules.{rules}
 use native.Mathlib.Omega.{arith}
 use Rattle.listing.proofs.list_runs.Given as goal

@@ -2,7 +2,8 @@
 use Prim.Native.Nat.{suc}
 use mathlib.Core.Path.{refl, ◌∙◌}
 use borrow.Author.Tests.{lt-ltb, le-ltb}
-use Rattle.geometry.specs.Lent.{lent, capacities_at}
+use Rattle.geometry.specs.Lent.{lent}
+use Rattle.geometry.proofs.Lent.{capacities_at}
 use Rattle.merge.specs.Filling.{full_told}
 use Rattle.merge.specs.Runs.{run_inside}
 use native.Mathlib.Omega.{arith}

@@ -1,7 +1,7 @@
 -- `put_level` copies a level's pages from the work area, and sets its page count. Assumes nothing.
 use mathlib.Core.Path.{refl}
 use Rattle.geometry.specs.Directory.{level_place}
-use Rattle.geometry.specs.Lent.{store_small}
+use Rattle.geometry.proofs.Lent.{store_small}
 use Rattle.merge.specs.Source.{put_inside}
 use native.Mathlib.Omega.{arith}
 use borrow.Author.Rules.{rules}

@@ -1,7 +1,7 @@
 -- `head_sound` tests the writing of the head, which is right, by `head_sound_parts`. Assumes nothing.
 use mathlib.Core.Path.{◌∙◌}
 use Rattle.geometry.specs.Directory.{level_place}
-use Rattle.geometry.specs.Lent.{head_room_at}
+use Rattle.geometry.proofs.Lent.{head_room_at}
 use Rattle.written.specs.Parts.{head_sound_parts}
 use Rattle.written.specs.Inside.{head_places}
 use borrow.Author.Rules.{rules}

@@ -1,7 +1,7 @@
 -- `writing_faults` tests the head's writing and then each level's. Assumes nothing.
 use mathlib.Core.Path.{◌∙◌}
 use Rattle.laws.specs.Tests.{told_no, told_past}
-use Rattle.geometry.specs.Lent.{head_room_at, head_least}
+use Rattle.geometry.proofs.Lent.{head_room_at, head_least}
 use Rattle.sound.specs.Levels.{head_written_lem, head_miswritten}
 use native.Mathlib.Omega.{arith}
 use Rattle.std.proofs.lemmas.Bool.{not_from_false, not_from_true}

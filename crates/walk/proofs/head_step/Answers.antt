@@ -2,7 +2,7 @@
 use Rattle.fault.specs.declared.Part.TheVariants.{Head}
 use mathlib.Core.Path.{ap, ◌∙◌}
 use Rattle.laws.specs.Tests.{told_no, told_past}
-use Rattle.geometry.specs.Lent.{head_lent}
+use Rattle.geometry.proofs.Lent.{head_lent}
 use Rattle.form.specs.declared.HeadRead.{HeadRead}
 use Rattle.form.specs.Passes.{head_formed}
 use Rattle.walk.specs.Read.{head_broken, head_first, head_some, head_reach_small, head_tells, head_within}

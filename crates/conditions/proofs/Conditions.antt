@@ -17,18 +17,22 @@ use Rattle.rules.specs.Allowance.{allowed}
 use Rattle.walk.specs.Trail.{trail, pages_below}
 use Rattle.call_check.specs.Check.{check_of}
 use Rattle.call_why.specs.Why.{why_lines}
-use Rattle.trails.specs.Topmost.{Topmost, topmost, trail_reads}
+use Rattle.trails.specs.Topmost.{Topmost}
+use Rattle.trails.proofs.Topmost.{topmost, trail_reads}
 use Rattle.conditions.specs.Calls.{Call, CallsFit, change_on, Made, make, history, words_after}
 use Rattle.conditions.specs.Lengths.{geometry_after}
 use Rattle.conditions.specs.Plain.{answers, set_after}
 use Rattle.conditions.specs.Seen.{seen}
 use Rattle.conditions.specs.Ruled.{state_after, pages_written}
 use Rattle.conditions.specs.Reports.{pages_reported, none_yet, since_format}
-use Rattle.conditions.specs.Edited.{kept_by, change_kept}
+use Rattle.conditions.specs.Edited.{kept_by}
+use Rattle.conditions.proofs.Edited.{change_kept}
 use Rattle.conditions.specs.Opened.{why_lines_written}
 use Rattle.conditions.specs.Stands.{stands_first, stands_sound, stands_most}
-use Rattle.conditions.specs.Sequences.{AllAgree, calls_agree}
-use Rattle.conditions.specs.Accounts.{none_accounts, calls_account, accounts_allowed}
+use Rattle.conditions.specs.Sequences.{AllAgree}
+use Rattle.conditions.proofs.Sequences.{calls_agree}
+use Rattle.conditions.specs.Accounts.{none_accounts, accounts_allowed}
+use Rattle.conditions.proofs.Accounts.{calls_account}
 use Rattle.conditions.specs.Numbers.{no_fault, no_faults}
 use Rattle.conditions.specs.Formatted.{format_call, format_makes, format_stands, format_long}
 
