@@ -20,7 +20,7 @@ use Rattle.good.specs.Live.{Counted, right_counted, counted_right}
 use Rattle.good.specs.Merge.{merge_length, merge_above, merge_here, merge_below, merge_fits}
 use Rattle.good.proofs.Merge.{merge_ascends, merge_alternates, merge_counted, merge_holds, merge_last}
 use Rattle.good.specs.Within.{within_upper, within_bottom, head_few, empty_within}
-use Rattle.good.specs.Cascade.{Stands, merged_state, stands}
+use Rattle.good.specs.Cascade.{above, there, below, Stands, merged_state, stands}
 
 -- No pair is lost or won by it.
 pub merge_held : (g : Geometry) (i : ℕ) (s : State) → Cascading g i s → i < bottom g → (p : Pair) → held p (merge i s.tree) ≡ held p s.tree
