@@ -96,11 +96,11 @@
  * x86-64 as `.ci/library` builds the library. It is not proved. A test holds each call to its bound twice: by the machine code of the
  * library, and by what calls on painted stacks reached. Of these bytes the library takes, the return address of the call included:
  *
- *     landing_put, landing_drop                 1608     in a merge from level 0 down to level 3; without one about half of it
- *     landing_list                              1120
- *     landing_check                              832
- *     landing_ask                                400
- *     landing_why                                384
+ *     landing_put, landing_drop                 1544     in a merge from level 0 down to level 3; without one about half of it
+ *     landing_list                              1104
+ *     landing_check                              784
+ *     landing_ask                                368
+ *     landing_why                                352
  *     landing_format                             104
  *     landing_store_words, landing_work_words      8
  *
