@@ -8,7 +8,7 @@ pub returns-in-Put : goal.returns-in-Put
 returns-in-Put c =
     let store = c.args.store.now in
     let work = c.args.work.now in
-    rw (put_made c.args.request store work c.in-Put.is) (change_called store work c.args.progress c.requires.counted c.after_change.result true c.args.request.pair c.put.result _ _ c.put.ensures c.after_change.ensures)
+    rw (put_made c.args.request store work c.in-Put.is) (search (rules, change_called))
 
 pub returns-in-Drop : goal.returns-in-Drop
 returns-in-Drop c =

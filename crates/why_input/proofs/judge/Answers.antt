@@ -1,6 +1,7 @@
 -- `judge` tells the first test that the input fails, or the pair. Assumes nothing.
 use Rattle.why_input.specs.Judging.{judged_badge, judged_floor, judged_long, judged_uneven, judged_good}
 use borrow.Author.Rules.{rules}
+use Rattle.std.proofs.Common.{arith}
 use Rattle.why_input.proofs.judge.Goals as goal
 
 pub returns-in_default : goal.returns-in_default
@@ -32,7 +33,7 @@ returns-then-chip-ne0 c =
     let a = c.args in
     let badge = rw c.in-Number.is at c.read_numeral.ensures in
     let floor = rw c.in-Number-read_numeral.is at c.read_numeral-2.ensures in record {
-      judges = judged_uneven a.badge.now a.floor.now a.chip.now _ badge _ floor c.if-chip-gt-MOST_BYTES.false c.if-chip-ne0.true;
+      judges = judged_uneven a.badge.now a.floor.now a.chip.now _ badge _ floor (omega arith) (search rules);
       short = tt;
     }
 

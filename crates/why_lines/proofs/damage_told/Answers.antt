@@ -23,18 +23,16 @@ returns-in-11 c =
 
 pub returns-in-12 : goal.returns-in-12
 returns-in-12 c =
-    let a = c.args in
-    let told = c.page_told.ensures in record {
-      printed = printed_as (damage_page a.level a.page a.slot a.number c.in-12.is) told.printed;
-      upper_bound = omega (arith, told.upper_bound);
+    let a = c.args in record {
+      printed = printed_as (damage_page a.level a.page a.slot a.number c.in-12.is) (search rules);
+      upper_bound = omega arith;
     }
 
 pub returns-in-13 : goal.returns-in-13
 returns-in-13 c =
-    let a = c.args in
-    let told = c.writing_told.ensures in record {
-      printed = printed_as (damage_writing a.level a.page a.slot a.number c.in-13.is) told.printed;
-      upper_bound = omega (arith, told.upper_bound);
+    let a = c.args in record {
+      printed = printed_as (damage_writing a.level a.page a.slot a.number c.in-13.is) (search rules);
+      upper_bound = omega arith;
     }
 
 pub returns-in_default : goal.returns-in_default
