@@ -24,4 +24,4 @@ read_slot-first-requires c = omega (arith, c.requires)
 
 pub returns : goal.returns
 unfolding external first_pair
-returns c = rw c.read_slot-first.ensures (fence_later _ _ c.if-page-eq0.false)
+returns c = rw c.read_slot-first.ensures (fence_later (first_pair c.args.words.now c.args.below_start) c.args.page.0 (omega arith))

@@ -17,7 +17,7 @@ returns-then-input-at-eq10 c =
 pub loop-at-preserved : goal.loop-at-preserved
 loop-at-preserved c =
     let a = c.args in
-    seek_goes_on a.input.now a.from c.loop-at.at c.loop-at.invariant (omega arith) c.if-input-at-eq10.false
+    seek_goes_on a.input.now a.from c.loop-at.at c.loop-at.invariant (omega arith) (omega arith)
 
 pub returns : goal.returns
 returns c =

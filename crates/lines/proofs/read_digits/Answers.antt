@@ -39,7 +39,7 @@ pub loop-j-preserved : goal.loop-j-preserved
 loop-j-preserved c =
     let l = c.loop-j in
     let digit = told_past _ _ c.is_digit.ensures (not_from_true _ c.if-not-is_digit.false) in
-    count_goes_on c.args.bytes.now l.j l.n l.invariant (omega arith) digit _ c.wide.ensures c.if-n-gt4294967295.false
+    count_goes_on c.args.bytes.now l.j l.n l.invariant (omega arith) digit _ c.wide.ensures (omega arith)
 
 pub overflow_cast-result : goal.overflow_cast-result
 overflow_cast-result c =

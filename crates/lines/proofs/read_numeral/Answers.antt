@@ -14,8 +14,8 @@ returns-then-bytes-ne48 c =
 
 pub returns-then-bytes-eq1 : goal.returns-then-bytes-eq1
 returns-then-bytes-eq1 c =
-    numeral_zero c.args.bytes.now c.if-bytes-eq1.true c.if-bytes-ne48.false
+    numeral_zero c.args.bytes.now c.if-bytes-eq1.true (omega arith)
 
 pub returns : goal.returns
 returns c =
-    numeral_padded c.args.bytes.now (omega arith) c.if-bytes-ne48.false
+    numeral_padded c.args.bytes.now (omega arith) (omega arith)

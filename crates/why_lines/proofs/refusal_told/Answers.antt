@@ -20,6 +20,6 @@ unfolding none_text
 returns c =
     let first = c.pair_told-refused.ensures in
     let second = c.print_bytes.ensures in record {
-      printed = printed_as (refusal_none c.args.pair c.args.decided c.args.entry c.if-entry-eq-FILTER.false) (printed_then first.printed second);
+      printed = printed_as (refusal_none c.args.pair c.args.decided c.args.entry (omega arith)) (printed_then first.printed second);
       upper_bound = omega (arith, first.upper_bound, second.ends);
     }

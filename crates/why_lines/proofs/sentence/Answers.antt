@@ -18,6 +18,6 @@ returns-then-trail-eq1 c =
 pub returns : goal.returns
 returns c =
     let told = c.refusal_told.ensures in record {
-      printed = printed_as (sentence_refused c.args.trail.now c.args.pair c.if-trail-eq1.false _ c.entry_at.ensures) told.printed;
+      printed = printed_as (sentence_refused c.args.trail.now c.args.pair (omega arith) _ c.entry_at.ensures) told.printed;
       upper_bound = told.upper_bound;
     }

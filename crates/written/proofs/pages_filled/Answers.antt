@@ -43,8 +43,8 @@ loop-p-smaller c = omega (arith, c.loop-p-test.true)
 pub loop-p-preserved : goal.loop-p-preserved
 unfolding count_of
 loop-p-preserved c =
-    let loop-test = c.loop-p-test in
-    (omega (arith, loop-test.true), c.loop-p.invariant.1 ∙ full_passes _ _ _ _ loop-test.true c.if-words-start-ne-PAGE_SLOTS.false)
+    let passed : count_of c.args.words.now c.args.start c.loop-p.p ≡ 21 = omega arith in
+    (omega (arith, c.loop-p-test.true), c.loop-p.invariant.1 ∙ full_passes _ _ _ _ c.loop-p-test.true passed)
 
 pub overflow_cast-last : goal.overflow_cast-last
 overflow_cast-last c = omega arith
