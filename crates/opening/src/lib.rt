@@ -14,6 +14,7 @@ pub enum Opened {
 }
 
 // Opens a store: it has a directory, its geometry is in range, and it is exactly as long as its geometry requires.
+#[tactic(auto, using(crate::specs::Opening::too_short))]
 pub fn open_store(store: &[u32]) -> Opened
     ensures { Opens store.now result }
 {

@@ -6,15 +6,10 @@ use Rattle.laws.specs.Tests.{told_no, told_past}
 use Rattle.geometry.specs.Places.{directory_words, plan_of}
 use Rattle.geometry.specs.Bounds.{in_range_lem}
 use Rattle.geometry.specs.Lent.{plan_words}
-use Rattle.opening.specs.Opening.{too_short, out_of_range, wrong_length, all_pass}
+use Rattle.opening.specs.Opening.{out_of_range, wrong_length, all_pass}
 use borrow.Author.Rules.{rules}
 use Rattle.std.proofs.lemmas.Bool.{not_from_false, not_from_true}
 use Rattle.opening.proofs.open_store.Goals as goal
-
-pub returns-then-store-lt-DIRECTORY_WORDS : goal.returns-then-store-lt-DIRECTORY_WORDS
-returns-then-store-lt-DIRECTORY_WORDS c =
-    let w = c.args.store.now in
-    too_short w (lt-leb directory_words (length w) c.if-store-lt-DIRECTORY_WORDS.true)
 
 pub returns-then-not-in_range : goal.returns-then-not-in_range
 returns-then-not-in_range c =
