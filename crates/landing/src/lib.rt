@@ -1,5 +1,5 @@
 // The C interface: each call of the index under a C name. The result is the reply's number, and out holds the values that the reply has.
-// include/landing.h is its manual.
+// crates/landing_c exports these; include/landing.h is their manual.
 #![tactic(auto)]
 
 ghost use Rattle.std.specs.Prelude.{◌≡◌, [], ◌∷◌};
@@ -18,16 +18,14 @@ use index::{ask_reply, check_reply, edit_reply, format_reply, list_reply};
 use slot::{Pair, Rid};
 
 // Makes the store of the empty set.
-#[unsafe(no_mangle)]
-pub extern "C" fn landing_format(store: &mut [u32], h: u32, k: u32, l: u32) -> u32
+pub fn landing_format(store: &mut [u32], h: u32, k: u32, l: u32) -> u32
     ensures { filled result (0 ∷ []) store.new ≡ format_of store.old (geometry_from h k l) }
 {
     format_reply(index::format(store, geometry_from(h, k, l)))
 }
 
 // From now on this badge may call this floor.
-#[unsafe(no_mangle)]
-pub extern "C" fn landing_put(
+pub fn landing_put(
     store: &mut [u32],
     work: &mut [u32],
     badge: u32,
@@ -43,8 +41,7 @@ pub extern "C" fn landing_put(
 }
 
 // From now on this badge may not call this floor.
-#[unsafe(no_mangle)]
-pub extern "C" fn landing_drop(
+pub fn landing_drop(
     store: &mut [u32],
     work: &mut [u32],
     badge: u32,
@@ -60,8 +57,7 @@ pub extern "C" fn landing_drop(
 }
 
 // May this badge call this floor?
-#[unsafe(no_mangle)]
-pub extern "C" fn landing_ask(store: &[u32], badge: u32, floor: u32, out: &mut [u32; 3]) -> u32
+pub fn landing_ask(store: &[u32], badge: u32, floor: u32, out: &mut [u32; 3]) -> u32
     ensures { replied result out.new ≡ ask_of store.now (pair_of badge floor) }
 {
     let asked = ask_reply(index::ask(store, pair_of(badge, floor)));
@@ -71,8 +67,7 @@ pub extern "C" fn landing_ask(store: &[u32], badge: u32, floor: u32, out: &mut [
 }
 
 // Why may it, or why not?
-#[unsafe(no_mangle)]
-pub extern "C" fn landing_why(store: &[u32], badge: u32, floor: u32, out: &mut [u32; 22]) -> u32
+pub fn landing_why(store: &[u32], badge: u32, floor: u32, out: &mut [u32; 22]) -> u32
     ensures { replied result out.new ≡ why_of store.now (pair_of badge floor) }
 {
     let told = ask_reply(index::why(store, pair_of(badge, floor), out));
@@ -80,8 +75,7 @@ pub extern "C" fn landing_why(store: &[u32], badge: u32, floor: u32, out: &mut [
 }
 
 // Which pairs from a first to a second does this store hold?
-#[unsafe(no_mangle)]
-pub extern "C" fn landing_list(
+pub fn landing_list(
     store: &[u32],
     badge1: u32,
     floor1: u32,
@@ -101,8 +95,7 @@ pub extern "C" fn landing_list(
 }
 
 // Is this store sound?
-#[unsafe(no_mangle)]
-pub extern "C" fn landing_check(store: &[u32], out: &mut [u32; 3]) -> u32
+pub fn landing_check(store: &[u32], out: &mut [u32; 3]) -> u32
     ensures { replied result out.new ≡ check_of store.now }
 {
     let checked = check_reply(index::check(store));
@@ -112,8 +105,7 @@ pub extern "C" fn landing_check(store: &[u32], out: &mut [u32; 3]) -> u32
 }
 
 // How many words a store has, 0 outside the ranges.
-#[unsafe(no_mangle)]
-pub extern "C" fn landing_store_words(h: u32, k: u32, l: u32) -> u32
+pub fn landing_store_words(h: u32, k: u32, l: u32) -> u32
     ensures { result ≡ words_for store_words (geometry_from h k l) }
 {
     let lengths = lengths_of(geometry_from(h, k, l));
@@ -121,8 +113,7 @@ pub extern "C" fn landing_store_words(h: u32, k: u32, l: u32) -> u32
 }
 
 // How many words a work area has, 0 outside the ranges.
-#[unsafe(no_mangle)]
-pub extern "C" fn landing_work_words(h: u32, k: u32, l: u32) -> u32
+pub fn landing_work_words(h: u32, k: u32, l: u32) -> u32
     ensures { result ≡ words_for work_words (geometry_from h k l) }
 {
     let lengths = lengths_of(geometry_from(h, k, l));
