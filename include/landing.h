@@ -2,7 +2,7 @@
  * The landing index: may this badge call this floor?
  *
  * An index of pairs (badge, floor), kept as an FD-tree in the words of a flash chip. Each call is proved, for every content of the memory
- * that it is handed and for every number, to give the reply and to leave the words that crates/landing/src/lib.rt states of it. This file
+ * that it is handed and for every number, to give the reply and to leave the words that crates/landing_c/src/lib.rt states of it. This file
  * says the same in words; docs/RULES.md has the rules in full, and docs/ARCHITECTURE.md explains the terms (level, page, merge, sound) on a
  * small store.
  *
