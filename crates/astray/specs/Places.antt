@@ -13,7 +13,7 @@ use Rattle.geometry.specs.declared.Plan.{Plan}
 use Rattle.geometry.specs.Geometry.{bottom, room}
 use Rattle.geometry.specs.Places.{head_count_word, head_room, level_start}
 use Rattle.geometry.specs.Bounds.{room_small}
-use Rattle.geometry.specs.Directory.{pages_of, pages_none}
+use Rattle.geometry.specs.Directory.{pages_of, pages_none, level_place}
 use Rattle.geometry.specs.Lent.{Lent}
 use Rattle.geometry.proofs.Lent.{head_least}
 use Rattle.slot.specs.declared.Slot.{Slot}
@@ -34,16 +34,10 @@ use Rattle.leaving.specs.Search.{leaves_at}
 
 -- The writings that the head and level i should be.
 unfoldable pub head_writing : Geometry → List ℕ → Writing
-head_writing g w = record { own = head_run g; room = 1; fenced = false; below_start = level_start g 1; below = pages_of g w 1 }
+head_writing g w = record { own = head_run g; room = 1; fenced = false; below = level_place g w 1 }
 
 unfoldable pub level_writing : Geometry → List ℕ → ℕ → Writing
-level_writing g w i = record {
-  own = level_run g w i;
-  room = room g i;
-  fenced = not (eqb i (bottom g));
-  below_start = level_start g (suc i);
-  below = pages_of g w (suc i);
-}
+level_writing g w i = record { own = level_run g w i; room = room g i; fenced = not (eqb i (bottom g)); below = level_place g w (suc i) }
 
 module _ (g : Geometry) (plan : Plan) (w : List ℕ) (lent : Lent g plan w) (right : directory_right g w ≡ true) where
   -- A level's pages are few.
@@ -58,7 +52,7 @@ module _ (g : Geometry) (plan : Plan) (w : List ℕ) (lent : Lent g plan w) (rig
 
   module _ (headed : head_right g w ≡ true) where
     pub head_within : (writing : Writing) → writing ≡ head_writing g w → Within w writing
-    unfolding head_writing head_run head_room
+    unfolding head_writing head_run head_room level_place
     head_within writing is =
         let inside : HeadInside w 9 (head_room g) (get_or w head_count_word 0) (level_start g 1) (pages_of g w 1) = head_places g w lent.in_range_lem right lent.exact headed in
         rw is (record {
@@ -88,7 +82,7 @@ module _ (g : Geometry) (plan : Plan) (w : List ℕ) (lent : Lent g plan w) (rig
         )
 
     head_writes : writes w (head_writing g w) ≡ head_slots_right
-    unfolding writes head_writing laid_over
+    unfolding writes head_writing laid_over level_place
     head_writes = rw (head_entries g w, first_at_lem g w 1) refl
 
     pub head_told : leaves_at w (head_writing g w) ≡ head_leaves g w
@@ -97,7 +91,7 @@ module _ (g : Geometry) (plan : Plan) (w : List ℕ) (lent : Lent g plan w) (rig
 
   module _ (i : ℕ) (l : 1 ≤ i) (u : i < g.levels) where
     pub level_within : (writing : Writing) → writing ≡ level_writing g w i → Within w writing
-    unfolding level_writing level_run
+    unfolding level_writing level_run level_place
     level_within writing is =
         let inside : LevelInside w (level_start g i) (room g i) (pages_of g w i) (level_start g (suc i)) (pages_of g w (suc i)) = level_places g w lent.in_range_lem right lent.exact i l u in
         rw is (record {
@@ -111,7 +105,7 @@ module _ (g : Geometry) (plan : Plan) (w : List ℕ) (lent : Lent g plan w) (rig
         })
 
     level_writes : writes w (level_writing g w i) ≡ level_laid g w i (entries_of (level_slots g w i))
-    unfolding writes level_writing
+    unfolding writes level_writing level_place
     level_writes = rw (level_entries g w i) (sym (level_laid_lem g w i (entries_of (level_slots g w i))))
 
     pub level_told : leaves_at w (level_writing g w i) ≡ level_leaves g w i

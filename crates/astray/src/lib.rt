@@ -2,8 +2,7 @@
 // head is one page.
 #![tactic(auto)]
 
-ghost use Rattle.std.specs.Prelude.{◌^◌, ◌≤◌, ◌<◌, min, ◌≡◌, true, length, get_or};
-ghost use Rattle.geometry.specs.Lent.{Lent};
+ghost use Rattle.std.specs.Prelude.{◌^◌, ◌≤◌, ◌<◌, ◌≡◌, true, length, get_or};
 ghost use Rattle.rules.specs.Sound.{directory_right, head_right};
 ghost use Rattle.rules.specs.Faults.{head_leaves, level_wrong};
 ghost use Rattle.entries.specs.Run.{Inside};
@@ -12,8 +11,7 @@ ghost use Rattle.astray.specs.Rising.{number_at, entry_astray};
 ghost use Rattle.astray.specs.Wrong.{most_of};
 
 use entries::Run;
-use geometry::{Geometry, PAGE_SLOTS, Plan, at_level, level_place};
-use laws::both;
+use geometry::{PAGE_SLOTS, Store, at_level};
 use leaving::{Writing, leaves};
 use slot::least_pair;
 use written::rises;
@@ -21,69 +19,55 @@ use written::rises;
 // The number of the slot in which a level that is not its writing is first wrong: the first slot that does not stand as the writing has it, or
 // the first entry that is not above the last one or is one too many. If there is none, the level's page count is wrong, and this is the first
 // slot past its pages.
-pub fn level_wrong(store: &[u32], g: Geometry, plan: Plan, level: u32) -> u32
-    requires lent { Lent g plan store.now }
-    requires store_value { directory_right g store.now ≡ true }
-    requires le_level { (1 ≤ level) × (level < g.levels) }
-    ensures { result ≡ level_wrong g store.now level }
+pub fn level_wrong(store: &Store, level: u32) -> u32
+    requires store_value { directory_right store.now.geometry store.now.words.now ≡ true }
+    requires le_level { (1 ≤ level) × (level < store.now.geometry.levels) }
+    ensures { result ≡ level_wrong store.now.geometry store.now.words.now level }
 {
-    let writing = level_writing(store, g, plan, level);
-    let own = writing.own;
+    let writing = level_writing(store, level);
     let end = PAGE_SLOTS * writing.room;
-    let slot = leaves(store, writing);
-    let entry = entry_astray(store, own, entries_most(g, plan, level), end);
-    let first = lesser(slot, entry);
+    let slot = leaves(store.words, writing);
+    let entry = entry_astray(store.words, writing.own, entries_most(store, level), end);
+    let first = slot.min(entry);
     if first < end {
         return first;
     }
-    PAGE_SLOTS * own.pages
+    PAGE_SLOTS * writing.own.pages
 }
 
 // The number of the slot where the head's words first leave the writing of its own entries; if they do not, the number of slots that the head
 // has room for.
-pub fn head_leaves(store: &[u32], g: Geometry, plan: Plan) -> u32
-    requires lent { Lent g plan store.now }
-    requires store_value { directory_right g store.now ≡ true }
-    requires store_value_2 { head_right g store.now ≡ true }
-    ensures { result ≡ head_leaves g store.now }
+pub fn head_leaves(store: &Store) -> u32
+    requires store_value { directory_right store.now.geometry store.now.words.now ≡ true }
+    requires store_value_2 { head_right store.now.geometry store.now.words.now ≡ true }
+    ensures { result ≡ head_leaves store.now.geometry store.now.words.now }
 {
-    leaves(store, head_writing(store, g, plan))
+    leaves(store.words, head_writing(store))
 }
 
 // The writing that the head should be.
-fn head_writing(store: &[u32], g: Geometry, plan: Plan) -> Writing
-    requires { Lent g plan store.now }
-    ensures { result ≡ head_writing g store.now }
+#[tactic(auto, unfolding(crate::specs::Places::head_writing))]
+fn head_writing(store: &Store) -> Writing
+    ensures { result ≡ head_writing store.now.geometry store.now.words.now }
 {
-    let own = entries::head_run(g, plan);
-    let below = level_place(store, g, plan, 1);
     Writing {
-        own,
+        own: entries::head_run(store),
         room: 1,
         fenced: false,
-        below_start: below.start,
-        below: below.pages,
+        below: store.level_place(1),
     }
 }
 
 // The writing that a level should be.
-fn level_writing(store: &[u32], g: Geometry, plan: Plan, level: u32) -> Writing
-    requires lent { Lent g plan store.now }
-    requires le_level { (1 ≤ level) × (level < g.levels) }
-    ensures { result ≡ level_writing g store.now level }
+fn level_writing(store: &Store, level: u32) -> Writing
+    requires { (1 ≤ level) × (level < store.now.geometry.levels) }
+    ensures { result ≡ level_writing store.now.geometry store.now.words.now level }
 {
-    let own = level_place(store, g, plan, level);
-    let below = level_place(store, g, plan, level + 1);
     Writing {
-        own: Run {
-            start: own.start,
-            pages: own.pages,
-            most: PAGE_SLOTS,
-        },
-        room: own.room,
-        fenced: level != g.levels - 1,
-        below_start: below.start,
-        below: below.pages,
+        own: entries::level_run(store, level),
+        room: store.level_place(level).room,
+        fenced: level != store.geometry.levels - 1,
+        below: store.level_place(level + 1),
     }
 }
 
@@ -98,11 +82,10 @@ fn entry_astray(words: &[u32], run: Run, most: u32, end: u32) -> u32
     let mut passed: u32 = 0;
     while !entries::is_ended(run, spot) {
         let entry = entries::entry_at(words, run, spot);
-        let pair = entry.pair;
-        if !both(passed < most, rises(passed, last, pair)) {
+        if !(passed < most && rises(passed, last, entry.pair)) {
             return number_of(run, spot);
         }
-        last = pair;
+        last = entry.pair;
         passed += 1;
         spot = entries::skip_to(words, run, spot + 1, least_pair());
     }
@@ -110,32 +93,24 @@ fn entry_astray(words: &[u32], run: Run, most: u32, end: u32) -> u32
 }
 
 // The number of the slot at a spot.
+#[tactic(auto, unfolding(crate::specs::Rising::number_at))]
 fn number_of(run: Run, spot: u64) -> u32
     requires { number_at run spot < 2 ^ 32 }
     ensures { result ≡ number_at run spot }
 {
     let cursor = entries::cursor_at(spot);
-    let page = cursor.page;
-    let slot = cursor.slot;
-    run.most * page.0 + slot.0
+    run.most * cursor.page.0 + cursor.slot.0
 }
 
 // The most entries that a level may have: one less than its capacity or, in the bottom, M.
-fn entries_most(g: Geometry, plan: Plan, level: u32) -> u32
-    requires level_lt_levels { (level < g.levels) × (g.levels ≤ 4) }
-    requires bound { 1 ≤ get_or plan.capacities level 0 }
-    ensures { result ≡ most_of g level (get_or plan.capacities level 0) }
+fn entries_most(store: &Store, level: u32) -> u32
+    requires { level < store.now.geometry.levels }
+    ensures { result ≡ most_of store.now.geometry level (get_or store.now.plan.capacities level 0) }
 {
-    let capacities = plan.capacities;
-    let capacity = at_level(capacities, level);
-    if level == g.levels - 1 {
-        return capacity;
+    let capacity = at_level(store.plan.capacities, level);
+    if level == store.geometry.levels - 1 {
+        capacity
+    } else {
+        capacity - 1
     }
-    capacity - 1
-}
-
-fn lesser(a: u32, b: u32) -> u32
-    ensures { result ≡ min a b }
-{
-    if a < b { a } else { b }
 }

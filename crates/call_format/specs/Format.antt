@@ -1,21 +1,21 @@
 -- Format on any words: the paper's numbers for what src/lib.rt answers, with every word of the store afterwards, as a total function of the
 -- store's words and the geometry given. Assumes nothing.
-use Rattle.std.specs.Prelude.{ℕ, zero, suc, ◌≡◌, true, false, List, [], ◌∷◌, length, eqb}
+use Rattle.std.specs.Prelude.{ℕ, zero, suc, ◌≡◌, true, false, List, [], ◌∷◌, length, eqb, Result, ⊤, Ok, Err}
 use Rattle.geometry.specs.declared.Geometry.{Geometry}
 use Rattle.geometry.specs.Geometry.{in_range}
 use Rattle.geometry.specs.Places.{store_words}
 use Rattle.rules.specs.Store.{empty_store}
-use Rattle.call_format.specs.declared.Formatted.{Formatted}
-use Rattle.call_format.specs.declared.Formatted.TheVariants.{Done, Range, Length}
+use Rattle.opening.specs.declared.Unopened.{Unopened}
+use Rattle.opening.specs.declared.Unopened.TheVariants.{Range, Length}
 use Rattle.opening.specs.Reply.{Reply, replied, Filled, filled, Test, test, first_failing}
 
 -- Format returns zeros.
-abbrev pub formatted_reply : Formatted → Reply
-formatted_reply Done = replied 0 (0 ∷ [])
-formatted_reply Range = replied 1 (0 ∷ [])
-formatted_reply Length = replied 5 (0 ∷ [])
+abbrev pub formatted_reply : Result ⊤ Unopened → Reply
+formatted_reply (Ok tt) = replied 0 (0 ∷ [])
+formatted_reply (Err Range) = replied 1 (0 ∷ [])
+formatted_reply (Err Length) = replied 5 (0 ∷ [])
 
-abbrev pub format_reply : Formatted → List ℕ → Filled
+abbrev pub format_reply : Result ⊤ Unopened → List ℕ → Filled
 format_reply formatted words = record { reply = formatted_reply formatted; words = words }
 
 -- The numbers given are tested before any length.

@@ -1,30 +1,25 @@
 // Put and drop, which change the store. Any words may be the store and the work area.
 #![tactic(auto)]
 
-ghost use Rattle.std.specs.Prelude.{◌≡◌, [], ◌∷◌};
-ghost use Rattle.geometry.specs.Places.{plan_of};
-ghost use Rattle.geometry.specs.Lent.{Lent};
-ghost use Rattle.form.specs.Passes.{head_scanned};
-ghost use Rattle.walk.specs.Walk.{walked};
-ghost use Rattle.walk.specs.declared.Walked.TheVariants.{Found};
+ghost use Rattle.std.specs.Prelude.{◌≡◌, ◌++◌};
 ghost use Rattle.opening.specs.Reply.{replied};
-ghost use Rattle.opening.specs.Opening.{OpensBoth};
-ghost use Rattle.opening.specs.declared.Opened.TheVariants.{Store};
-ghost use Rattle.call_put.specs.Edit.{edited_reply, edit_reply, put_of, drop_of, edit_of, found_of, after_walk, answer_for};
+ghost use Rattle.call_put.specs.declared.EditRefusal.TheVariants.{Fault as FaultRefusal};
+ghost use Rattle.call_put.specs.Refused.{edit_refusal_of, edit_refused};
+ghost use Rattle.call_put.specs.Edit.{edited_reply, edit_reply, put_of, drop_of, edit_of, answer_for, edit_answered};
 ghost use Rattle.call_put.specs.Tested.{tested_of, put_tested, drop_tested};
 
-use change::{Finding, Outcome, Report};
+pub use change::Done;
+use change::{Finding, Report, change};
 use entries::Entry;
-use fault::{Fault, Part, number_of};
-use geometry::{Geometry, Plan};
-use opening::Opened;
+use fault::{Fault, Part};
+use geometry::{LIVE, Store, at_level};
+use opening::{Refusal, Reply, Unopened, open_both};
 use slot::Pair;
-use walk::Walked;
+use walk::walk_survey;
 
-// What put and drop answer: live pairs, the deepest level merged into and the pages written, or why they were refused.
-#[derive(Clone, Copy)]
-pub enum Edited {
-    Done(u32, u32, u32),
+// Why a put or drop is refused: the words are no store and work area, a test finds a fault, or the set is against it.
+#[derive(Clone, Copy, PartialEq, Eq)]
+pub enum EditRefusal {
     Range,
     Length,
     Fault(Fault),
@@ -33,10 +28,29 @@ pub enum Edited {
     Full,
 }
 
+impl From<Unopened> for EditRefusal {
+    ghost from_gives = { λ unopened refusal. refusal ≡ edit_refusal_of unopened };
+
+    fn from(unopened: Unopened) -> EditRefusal {
+        match unopened {
+            Unopened::Range => EditRefusal::Range,
+            Unopened::Length => EditRefusal::Length,
+        }
+    }
+}
+
+impl From<Fault> for EditRefusal {
+    ghost from_gives = { λ fault refusal. refusal ≡ FaultRefusal fault };
+
+    fn from(fault: Fault) -> EditRefusal {
+        EditRefusal::Fault(fault)
+    }
+}
+
 // The answer, with the index entries in each level beside it.
 #[derive(Clone, Copy)]
 pub struct Changed {
-    pub answer: Edited,
+    pub answer: Result<Done, EditRefusal>,
     pub entries: [u32; 4],
 }
 
@@ -61,181 +75,135 @@ pub fn drop(store: &mut [u32], work: &mut [u32], pair: Pair) -> Changed
     )
 }
 
-// A put, whose entry is normal, or a drop, whose entry is a filter.
+// A put, whose entry is normal, or a drop, whose entry is a filter. A refusal has zeros beside it.
 fn edit(store: &mut [u32], work: &mut [u32], entry: Entry) -> Changed
     ensures { edit_reply result.answer result.entries store.new work.new ≡ edit_of store.old work.old entry.normal entry.pair }
 {
-    match opening::open_both(store, work) {
-        Opened::Store(geometry) => edit_open(store, work, geometry, entry),
-        Opened::Range => unchanged(Edited::Range),
-        Opened::Length => unchanged(Edited::Length),
+    match edit_tested(store, work, entry) {
+        Ok(report) => {
+            let entries = report.entries;
+            Changed {
+                answer: told(report.outcome),
+                entries,
+            }
+        }
+        Err(refusal) => Changed {
+            answer: Err(refusal),
+            entries: [0; 4],
+        },
     }
 }
 
-// Walks a store that is open, and then puts or drops.
-fn edit_open(store: &mut [u32], work: &mut [u32], g: Geometry, entry: Entry) -> Changed
-    requires { OpensBoth store.old work.old (Store g) }
-    ensures { edit_reply result.answer result.entries store.new work.new ≡ after_walk store.old work.old (walked g store.old entry.pair) (found_of store.old work.old entry.normal entry.pair) }
+// What a change came to, as the answer.
+fn told(outcome: Result<Done, Fault>) -> Result<Done, EditRefusal>
+    ensures { result ≡ answer_for outcome }
 {
-    let plan = geometry::plan_for(g);
-    let pair = entry.pair;
-    let survey = walk::walk_survey(store, g, pair);
-    let walked = survey.walked;
-    let head = survey.head;
-    match walked {
-        Walked::Fault(fault) => unchanged(Edited::Fault(fault)),
-        Walked::Found(held, level) => edit_found(
-            store,
-            work,
-            g,
-            plan,
-            entry,
-            Finding { held, level, head },
-        ),
-    }
+    Ok(outcome?)
 }
 
-// Puts or drops a pair that was found held or not, decided by a level, if no test is against it.
-fn edit_found(
-    store: &mut [u32],
-    work: &mut [u32],
-    g: Geometry,
-    plan: Plan,
-    entry: Entry,
-    finding: Finding,
-) -> Changed
-    requires opens_both { OpensBoth store.old work.old (Store g) }
-    requires plan_value { plan ≡ plan_of g }
-    requires pair_value { walked g store.old entry.pair ≡ Found finding.held finding.level }
-    requires head_value { finding.head ≡ head_scanned g store.old entry.pair }
-    ensures { edit_reply result.answer result.entries store.new work.new ≡ found_of store.old work.old entry.normal entry.pair finding.held finding.level }
+// Makes the tests before a change, and then the change.
+fn edit_tested(store: &mut [u32], work: &mut [u32], entry: Entry) -> Result<Report, EditRefusal>
+    ensures { edit_answered result store.new work.new ≡ edit_of store.old work.old entry.normal entry.pair }
 {
-    match test_found(store, g, plan, entry.normal, finding.held) {
-        Tested::Passed => told(change::change(store, work, g, plan, entry, finding)),
-        Tested::Refused(answer) => unchanged(answer),
-    }
-}
-
-// What the tests after the walk come to: nothing against the change, or why it is refused.
-#[derive(Clone, Copy)]
-pub enum Tested {
-    Passed,
-    Refused(Edited),
+    let opened = open_both(store, work)?;
+    let geometry = opened.geometry;
+    let plan = opened.plan;
+    let survey = walk_survey(&opened, entry.pair);
+    let found = survey.walked?;
+    test_found(&opened, entry.normal, found.held)?;
+    let finding = Finding {
+        held: found.held,
+        level: found.level,
+        head: survey.head,
+    };
+    Ok(change(store, work, geometry, plan, entry, finding))
 }
 
 // The tests after the walk, of a put or of a drop.
-fn test_found(store: &[u32], g: Geometry, plan: Plan, normal: bool, held: bool) -> Tested
-    requires { Lent g plan store.now }
-    ensures { result ≡ tested_of g store.now normal held }
+fn test_found(store: &Store, normal: bool, held: bool) -> Result<(), EditRefusal>
+    ensures { result ≡ tested_of store.now.geometry store.now.words.now normal held }
 {
-    let live = store[geometry::LIVE];
+    let live = store.words[LIVE];
     if normal {
-        let capacities = plan.capacities;
-        let most = geometry::at_level(capacities, g.levels - 1);
+        let most = at_level(store.plan.capacities, store.geometry.levels - 1);
         return test_put(held, live, most);
     }
     test_drop(held, live)
 }
 
 // A put of a held pair is refused, and then one into a full store.
-fn test_put(held: bool, live: u32, most: u32) -> Tested
+fn test_put(held: bool, live: u32, most: u32) -> Result<(), EditRefusal>
     ensures { result ≡ put_tested held live most }
 {
     if held {
-        return Tested::Refused(Edited::Held);
+        return Err(EditRefusal::Held);
     }
     if most <= live {
-        return Tested::Refused(Edited::Full);
+        return Err(EditRefusal::Full);
     }
-    Tested::Passed
+    Ok(())
 }
 
 // A drop of a pair not held is refused, and then one from a store with no live pairs.
-fn test_drop(held: bool, live: u32) -> Tested
+fn test_drop(held: bool, live: u32) -> Result<(), EditRefusal>
     ensures { result ≡ drop_tested held live }
 {
     if !held {
-        return Tested::Refused(Edited::Missing);
+        return Err(EditRefusal::Missing);
     }
     if live == 0 {
-        return Tested::Refused(Edited::Fault(Fault {
-            part: Part::Kinds,
-            level: 0,
-            page: 0,
-            slot: 0,
-        }));
+        return Err(EditRefusal::Fault(Fault::of(Part::Kinds)));
     }
-    Tested::Passed
+    Ok(())
 }
 
-// The answer of a change.
-fn told(report: Report) -> Changed
-    ensures { (result.answer ≡ answer_for report.outcome) × (result.entries ≡ report.entries) }
-{
-    let entries = report.entries;
-    let outcome = report.outcome;
-    match outcome {
-        Outcome::Done(live, deepest, pages) => Changed {
-            answer: Edited::Done(live, deepest, pages),
-            entries,
-        },
-        Outcome::Fault(fault) => Changed {
-            answer: Edited::Fault(fault),
-            entries,
-        },
-    }
-}
+// A refusal is told with zeros, but a fault with its place.
+impl From<EditRefusal> for Reply<3> {
+    ghost from_gives = { λ refusal reply. replied reply.number reply.values ≡ edit_refused refusal };
 
-// An answer of a call that changed nothing.
-fn unchanged(answer: Edited) -> Changed
-    ensures { (result.answer ≡ answer) × (result.entries ≡ 0 ∷ 0 ∷ 0 ∷ 0 ∷ []) }
-{
-    Changed {
-        answer,
-        entries: [0; 4],
+    fn from(refusal: EditRefusal) -> Reply<3> {
+        match refusal {
+            EditRefusal::Range => Reply::from(Refusal::Range),
+            EditRefusal::Length => Reply::from(Refusal::Length),
+            EditRefusal::Fault(fault) => Reply::from(Refusal::Fault(fault)),
+            EditRefusal::Held => Reply {
+                number: 2,
+                values: [0; 3],
+            },
+            EditRefusal::Missing => Reply {
+                number: 3,
+                values: [0; 3],
+            },
+            EditRefusal::Full => Reply {
+                number: 4,
+                values: [0; 3],
+            },
+        }
     }
 }
 
 // The number of put's or drop's reply, and its values: live pairs, the deepest level merged into and the pages written, or the place of a
 // fault; and the index entries in each level.
-#[derive(Clone, Copy)]
-pub struct EditReply {
-    pub number: u32,
-    pub values: [u32; 7],
-}
-
-// The reply by number, as the paper has it.
-pub fn edit_reply(changed: Changed) -> EditReply
+pub fn edit_reply(changed: Changed) -> Reply<7>
     ensures { replied result.number result.values ≡ edited_reply changed.answer changed.entries }
 {
-    let answer = changed.answer;
-    let entries = changed.entries;
-    match answer {
-        Edited::Done(live, deepest, pages) => reply_of(0, live, deepest, pages, entries),
-        Edited::Range => reply_of(1, 0, 0, 0, entries),
-        Edited::Length => reply_of(5, 0, 0, 0, entries),
-        Edited::Fault(fault) => {
-            let part = fault.part;
-            reply_of(
-                number_of(part),
-                fault.level,
-                fault.page,
-                fault.slot,
-                entries,
-            )
-        }
-        Edited::Held => reply_of(2, 0, 0, 0, entries),
-        Edited::Missing => reply_of(3, 0, 0, 0, entries),
-        Edited::Full => reply_of(4, 0, 0, 0, entries),
-    }
+    let told = match changed.answer {
+        Ok(done) => Reply {
+            number: 0,
+            values: [done.live, done.deepest, done.pages],
+        },
+        Err(refusal) => Reply::from(refusal),
+    };
+    beside_entries(told, changed.entries)
 }
 
 // A reply of three values and the four counts of entries.
-fn reply_of(number: u32, first: u32, second: u32, third: u32, entries: [u32; 4]) -> EditReply
-    ensures { replied result.number result.values ≡ replied number (first ∷ second ∷ third ∷ entries) }
+fn beside_entries(told: Reply<3>, entries: [u32; 4]) -> Reply<7>
+    ensures { replied result.number result.values ≡ replied told.number (told.values ++ entries) }
 {
-    EditReply {
-        number,
+    let [first, second, third] = told.values;
+    Reply {
+        number: told.number,
         values: [
             first, second, third, entries[0], entries[1], entries[2], entries[3],
         ],

@@ -1,12 +1,13 @@
 -- Why on any words: the lines of its trail, and the trail as a total function of words and pair. Assumes nothing.
-use Rattle.std.specs.Prelude.{ℕ, zero, suc, ◌-◌, ◌≤◌, ◌≡◌, cond, List, [], ◌∷◌, ◌++◌, length, get_or, take, replicate, set, eqb}
+use Rattle.std.specs.Prelude.{ℕ, zero, suc, ◌-◌, ◌≤◌, ◌≡◌, cond, List, [], ◌∷◌, ◌++◌, length, get_or, take, replicate, set, eqb, Ok, Err}
 use Rattle.std.proofs.Common.{arith, sym, ap, ◌∙◌, ne_eqb}
 use Rattle.std.proofs.Math.Path.{refl}
-use Rattle.geometry.specs.declared.Geometry.{Geometry}
+use Rattle.geometry.specs.declared.Store.{Store}
 use Rattle.geometry.specs.Directory.{geometry_of}
 use Rattle.slot.specs.declared.Pair.{Pair}
 use Rattle.walk.specs.Trail.{Line, walk_lines, walk_lines_few}
-use Rattle.opening.specs.declared.Opened.TheVariants.{Store}
+use Rattle.opening.specs.declared.Unopened.{Unopened}
+use Rattle.opening.specs.declared.Unopened.TheVariants.{Range, Length}
 use Rattle.opening.specs.Opening.{opening, Opens, opened_range}
 use Rattle.opening.specs.Reply.{Reply, replied, by_first}
 use Rattle.call_ask.specs.Ask.{ask_of, ask_refused_lem, three_values, answer_ends, ask_values}
@@ -23,9 +24,17 @@ module _ (w : List ℕ) (pair : Pair) where
   unfolding why_lines noted
   lines_refused n e t = rw e refl
 
-  pub lines_opened : (g : Geometry) → Opens w (Store g) → (t : List ℕ) → noted t 0 (walk_lines g w pair) ≡ noted t 0 (why_lines w pair)
+  pub lines_unopened : (why : Unopened) → Opens w (Err why) → (t : List ℕ) → t ≡ noted t 0 (why_lines w pair)
+  lines_unopened Range o = lines_refused 0 o
+  lines_unopened Length o = lines_refused 4 o
+
+  pub lines_walked : opening w ≡ 0 → (t : List ℕ) → noted t 0 (walk_lines (geometry_of w) w pair) ≡ noted t 0 (why_lines w pair)
   unfolding why_lines
-  lines_opened g o t = rw (o.1, o.0) refl
+  lines_walked o t = rw o refl
+
+  pub lines_opened : (s : Store) → Opens w (Ok s) → (t : List ℕ) → noted t 0 (walk_lines s.geometry s.words.now pair) ≡ noted t 0 (why_lines w pair)
+  unfolding why_lines
+  lines_opened s o t = rw (o.1, o.2, o.0) refl
 
 -- Of an answer held and the deciding level, then the lines; of a refusal its values, and no lines.
 abbrev pub why_values : Reply → List Line → List ℕ

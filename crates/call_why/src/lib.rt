@@ -7,41 +7,33 @@ ghost use Rattle.walk.specs.Lines.{noted};
 ghost use Rattle.call_ask.specs.Ask.{ask_reply, ask_of};
 ghost use Rattle.call_why.specs.Why.{why_lines, why_words};
 
-use call_ask::{Asked, ask_reply, asked_from};
-use opening::Opened;
+use call_ask::{Refusal, ask_reply};
+use opening::open_store;
 use slot::Pair;
 use trail_words::{DECIDED, FAULT_SLOT, HELD};
-use walk::walk_noted;
+use walk::{Found, walk_noted};
 
 // Why may this badge call this floor, or why not?
-pub fn why(store: &[u32], pair: Pair, trail: &mut [u32; 22]) -> Asked
+pub fn why(store: &[u32], pair: Pair, trail: &mut [u32; 22]) -> Result<Found, Refusal>
     ensures answers { ask_reply result ≡ ask_of store.now pair }
     ensures tells { trail.new ≡ why_words store.now pair }
 {
+    *trail = [0; 22];
     let asked = ask_noted(store, pair, trail);
     let reply = ask_reply(asked);
-    let values = reply.values;
-    keep_if(trail, reply.number == 0, values[2]);
-    trail[HELD] = values[0];
-    trail[DECIDED] = values[1];
+    keep_if(trail, reply.number == 0, reply.values[2]);
+    trail[HELD] = reply.values[0];
+    trail[DECIDED] = reply.values[1];
     asked
 }
 
 // Asks, and notes a line for each level read.
-fn ask_noted(store: &[u32], pair: Pair, trail: &mut [u32; 22]) -> Asked
+fn ask_noted(store: &[u32], pair: Pair, trail: &mut [u32; 22]) -> Result<Found, Refusal>
     ensures answers { ask_reply result ≡ ask_of store.now pair }
-    ensures notes { trail.new ≡ noted (replicate trail_words 0) 0 (why_lines store.now pair) }
+    ensures notes { trail.new ≡ noted trail.old 0 (why_lines store.now pair) }
 {
-    *trail = [0; 22];
-    match opening::open_store(store) {
-        Opened::Store(g) => {
-            let survey = walk_noted(store, g, pair, trail);
-            let walked = survey.walked;
-            asked_from(walked)
-        }
-        Opened::Range => Asked::Range,
-        Opened::Length => Asked::Length,
-    }
+    let store = open_store(store)?;
+    Ok(walk_noted(&store, pair, trail).walked?)
 }
 
 // Clears a trail that is not to be kept, but for the slot of a fault.

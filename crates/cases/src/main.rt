@@ -5,12 +5,12 @@
 ghost use Rattle.std.specs.Prelude.{◌≤◌};
 
 use geometry::{Geometry, HEAD_START, PAGE_COUNTS, PAGE_WORDS, SLOT_WORDS};
-use index::{EditReply, ask_reply, edit_reply, format_reply, list_reply};
+use index::{ask_reply, edit_reply, format_reply, list_reply};
 use slot::{Kind, Pair, Pid, Rid};
 use std::io;
 
 // A badge or floor above all others.
-const GREATEST: u32 = 4294967295;
+const GREATEST: u32 = u32::MAX;
 
 // Where level 1 begins in a store of 21, 2, 2 and of 10, 4, 3: after H + Pg(1) head slots.
 const LEVEL_1_OF_21_2_2: usize = 78;
@@ -21,6 +21,13 @@ const LEVEL_1_OF_10_4_3: usize = 48;
 pub enum Op {
     Put,
     Drop,
+}
+
+// An edit's reply: its number and values.
+#[derive(Clone, Copy)]
+pub struct Edited {
+    pub number: u32,
+    pub values: [u32; 7],
 }
 
 fn main(rt: HostRuntime) -> io::Result<()> {
@@ -142,9 +149,9 @@ fn case_11(rt: &impl Print, store: &mut [u32], work: &mut [u32]) -> io::Result<(
     edit_all(rt, store, work, Op::Put, 1, 42, 0)?;
     let mut slice = [1000, 1001, 1002, 1003, 1004];
     list_line(rt, store, 1, 42, &mut slice)?;
-    print(rt, "words")?;
+    print!(rt; "words")?;
     print_words(rt, &slice)?;
-    print(rt, "\n")
+    println!(rt)
 }
 
 // The case's number, and the store of the empty set.
@@ -165,10 +172,7 @@ fn begin(
             levels,
         },
     ));
-    print_number(rt, "format ", head)?;
-    print_number(rt, ",", ratio)?;
-    print_number(rt, ",", levels)?;
-    number_line(rt, ": reply ", reply)
+    println!(rt; "format {head},{ratio},{levels}: reply {reply}")
 }
 
 // Puts or drops the badges from a first to a last at one floor, and prints the pages written in all and the last reply.
@@ -183,80 +187,58 @@ fn edit_all(
 ) -> io::Result<()> {
     let mut pages: u32 = 0;
     for badge in first..last {
-        let reply = edit(store, work, op, badge, floor);
-        pages = pages.wrapping_add(pages_of(reply));
+        pages = pages.wrapping_add(edit(store, work, op, badge, floor).pages());
     }
-    let reply = edit(store, work, op, last, floor);
-    edits_line(
-        rt,
-        op,
-        first,
-        last,
-        floor,
-        pages.wrapping_add(pages_of(reply)),
-    )?;
-    edit_line(rt, reply)
+    let edited = edit(store, work, op, last, floor);
+    pages = pages.wrapping_add(edited.pages());
+    let name = match op {
+        Op::Put => "put",
+        Op::Drop => "drop",
+    };
+    print!(rt; "{name} {first} to {last} at {floor} wrote {pages}")?;
+    edit_line(rt, edited)
 }
 
-fn edits_line(
-    rt: &impl Print,
-    op: Op,
-    first: u32,
-    last: u32,
-    floor: u32,
-    pages: u32,
-) -> io::Result<()> {
-    match op {
-        Op::Put => print_number(rt, "put ", first)?,
-        Op::Drop => print_number(rt, "drop ", first)?,
-    }
-    print_number(rt, " to ", last)?;
-    print_number(rt, " at ", floor)?;
-    print_number(rt, " wrote ", pages)
-}
-
-fn edit(store: &mut [u32], work: &mut [u32], op: Op, badge: u32, floor: u32) -> EditReply {
-    match op {
-        Op::Put => edit_reply(index::put(store, work, pair(badge, floor))),
-        Op::Drop => edit_reply(index::drop(store, work, pair(badge, floor))),
-    }
-}
-
-// The pages written, which are the third value. A refusal has written none.
-fn pages_of(reply: EditReply) -> u32 {
-    if reply.number != 0 {
-        return 0;
-    }
-    reply.values[2]
-}
-
-fn edit_line(rt: &impl Print, reply: EditReply) -> io::Result<()> {
+fn edit(store: &mut [u32], work: &mut [u32], op: Op, badge: u32, floor: u32) -> Edited {
+    let pair = pair(badge, floor);
+    let changed = match op {
+        Op::Put => index::put(store, work, pair),
+        Op::Drop => index::drop(store, work, pair),
+    };
+    let reply = edit_reply(changed);
     let values = reply.values;
-    if reply.number != 0 {
-        return refusal_line(rt, reply.number, values[0], values[1], values[2]);
+    Edited {
+        number: reply.number,
+        values,
     }
-    print_number(rt, ": reply 0 live ", values[0])?;
-    print_number(rt, " deepest ", values[1])?;
-    print_number(rt, " pages ", values[2])?;
-    print_number(rt, " entries ", values[3])?;
-    print_number(rt, " ", values[4])?;
-    print_number(rt, " ", values[5])?;
-    number_line(rt, " ", values[6])
+}
+
+impl Edited {
+    // The pages written, which are the third value. A refusal has written none.
+    fn pages(self) -> u32 {
+        if self.number == 0 { self.values[2] } else { 0 }
+    }
+}
+
+fn edit_line(rt: &impl Print, edited: Edited) -> io::Result<()> {
+    let [live, deepest, pages, head, one, two, three] = edited.values;
+    if edited.number != 0 {
+        return refusal_line(rt, edited.number, live, deepest, pages);
+    }
+    print!(rt; ": reply 0 live {live} deepest {deepest} pages {pages}")?;
+    println!(rt; " entries {head} {one} {two} {three}")
 }
 
 fn refusal_line(rt: &impl Print, reply: u32, level: u32, page: u32, slot: u32) -> io::Result<()> {
-    print_number(rt, ": reply ", reply)?;
-    print_number(rt, " level ", level)?;
-    print_number(rt, " page ", page)?;
-    number_line(rt, " slot ", slot)
+    println!(rt; ": reply {reply} level {level} page {page} slot {slot}")
 }
 
 // Asks for a badge with every page as it is, and then with page 0 and with page 1 of level 1 damaged.
 fn ask_pages(rt: &impl Print, store: &mut [u32], badge: u32) -> io::Result<()> {
     ask_line(rt, store, badge, 0)?;
-    print(rt, "page 0 damaged: ")?;
+    print!(rt; "page 0 damaged: ")?;
     ask_damaged(rt, store, badge, LEVEL_1_OF_21_2_2)?;
-    print(rt, "page 1 damaged: ")?;
+    print!(rt; "page 1 damaged: ")?;
     ask_damaged(rt, store, badge, LEVEL_1_OF_21_2_2 + PAGE_WORDS)
 }
 
@@ -273,15 +255,13 @@ fn ask_damaged(rt: &impl Print, store: &mut [u32], badge: u32, place: usize) -> 
 }
 
 fn ask_line(rt: &impl Print, store: &[u32], badge: u32, floor: u32) -> io::Result<()> {
-    print_number(rt, "ask ", badge)?;
-    print_number(rt, " at ", floor)?;
+    print!(rt; "ask {badge} at {floor}")?;
     let reply = ask_reply(index::ask(store, pair(badge, floor)));
-    let values = reply.values;
+    let [first, second, third] = reply.values;
     if reply.number != 0 {
-        return refusal_line(rt, reply.number, values[0], values[1], values[2]);
+        return refusal_line(rt, reply.number, first, second, third);
     }
-    print_number(rt, ": reply 0 held ", values[0])?;
-    number_line(rt, " level ", values[1])
+    println!(rt; ": reply 0 held {first} level {second}")
 }
 
 fn list_line(
@@ -291,20 +271,18 @@ fn list_line(
     last: u32,
     slice: &mut [u32],
 ) -> io::Result<()> {
-    print_number(rt, "list ", first)?;
-    print_number(rt, " to ", last)?;
+    print!(rt; "list {first} to {last}")?;
     let reply = list_reply(index::list(store, pair(first, 0), pair(last, 0), slice));
-    let values = reply.values;
+    let [first, second, third] = reply.values;
     if reply.number != 0 {
-        return refusal_line(rt, reply.number, values[0], values[1], values[2]);
+        return refusal_line(rt, reply.number, first, second, third);
     }
-    print_number(rt, ": reply 0 pairs ", values[0])?;
-    number_line(rt, " mark ", values[1])
+    println!(rt; ": reply 0 pairs {first} mark {second}")
 }
 
 fn print_words(rt: &impl Print, words: &[u32]) -> io::Result<()> {
     for word in words {
-        print_number(rt, " ", *word)?;
+        print!(rt; " {word}")?;
     }
     Ok(())
 }
@@ -313,9 +291,10 @@ fn print_words(rt: &impl Print, words: &[u32]) -> io::Result<()> {
 fn slot_line(rt: &impl Print, name: &str, store: &[u32], place: usize) -> io::Result<()>
     requires { place ≤ 752 }
 {
-    print_number(rt, name, word_at(store, place))?;
-    print_number(rt, " ", word_at(store, place + 1))?;
-    number_line(rt, " ", word_at(store, place + 2))
+    let badge = word_at(store, place);
+    let floor = word_at(store, place + 1);
+    let tag = word_at(store, place + 2);
+    println!(rt; "{name}{badge} {floor} {tag}")
 }
 
 // The word at a place, 0 past the end.
@@ -334,14 +313,5 @@ fn pair(badge: u32, floor: u32) -> Pair {
 }
 
 fn number_line(rt: &impl Print, name: &str, n: u32) -> io::Result<()> {
-    print_number(rt, name, n)?;
-    print(rt, "\n")
-}
-
-fn print_number(rt: &impl Print, name: &str, n: u32) -> io::Result<()> {
-    print!(rt; "{name}{n}")
-}
-
-fn print(rt: &impl Print, text: &str) -> io::Result<()> {
-    print!(rt; "{text}")
+    println!(rt; "{name}{n}")
 }

@@ -31,7 +31,7 @@ use Rattle.rules.specs.Tree.{Entry}
 use Rattle.rules.specs.Level.{index}
 use Rattle.rules.specs.Sound.{head_slots, entries_of, fence_pages, directory_right, head_right}
 use Rattle.geometry.specs.Directory.{geometry_of, pages_of}
-use Rattle.walk.specs.declared.Walked.TheVariants.{Found}
+use Rattle.walk.specs.Walked.{found}
 use Rattle.form.specs.declared.HeadRead.{HeadRead}
 use Rattle.form.specs.Passes.{head_scanned, head_reach, head_entries}
 use Rattle.walk.specs.Read.{head_tests, head_some}
@@ -63,7 +63,7 @@ pub record Editable (e : Entry) (behind : ℕ) (w : List ℕ) : Type 0 where
 -- none for a drop.
 pub record Accepted (g : Geometry) (w : List ℕ) (e : Entry) (decider : ℕ) : Type 0 where
   pub stored : geometry_of w ≡ g
-  pub walks : walked g w e.pair ≡ Found (not e.normal) decider
+  pub walks : walked g w e.pair ≡ found (not e.normal) decider
   pub room : e.normal ≡ true → get_or w live_word 0 < most g
   pub some : e.normal ≡ false → 1 ≤ get_or w live_word 0
 
@@ -124,13 +124,13 @@ module _ (g : Geometry) (plan : Plan) (w : List ℕ) (e : Entry) (decider : ℕ)
   -- What a pass over the head for the pair finds.
   pub accepted_scanned : (scan : HeadRead) → scan ≡ head_scanned g w e.pair → Scanned g w e scan
   unfolding reach head_slots
-  accepted_scanned scan found =
-      let counted : scan.entries ≡ length (entries_of (head_slots g w)) = ap (λ (c : HeadRead). c.entries) found ∙ head_entries g w e.pair in
+  accepted_scanned scan read =
+      let counted : scan.entries ≡ length (entries_of (head_slots g w)) = ap (λ (c : HeadRead). c.entries) read ∙ head_entries g w e.pair in
       let some = ltb-true (length (entries_of (head_slots g w))) g.head (head_tests g w e.pair accepted_head).1 in
       record {
         counted = counted;
         few = omega (arith, counted, some, lends.in_range_lem.head_most);
-        reached = ap (λ (c : HeadRead). c.reach) found ∙ head_reach g w e.pair;
+        reached = ap (λ (c : HeadRead). c.reach) read ∙ head_reach g w e.pair;
       }
 
   -- So the head can be edited behind the slots at most the pair.

@@ -23,11 +23,12 @@ use Rattle.rules.specs.Level.{slots_of}
 use Rattle.rules.specs.Finding.{held}
 use Rattle.rules.specs.Merging.{State, edit}
 use Rattle.rules.specs.Store.{writing}
-use Rattle.fault.specs.declared.Judged.TheVariants.{Sound}
+use Rattle.std.specs.Prelude.{Ok}
 use Rattle.rules.specs.Sound.{head_slots, entries_of}
 use Rattle.rules.specs.Faults.{fault}
 use Rattle.rules.specs.Good.{Good, Cascading}
-use Rattle.walk.specs.declared.Walked.TheVariants.{Found}
+use Rattle.walk.specs.declared.Found.{Found}
+use Rattle.walk.specs.Walked.{found}
 use Rattle.walk.specs.Walk.{walked}
 use Rattle.entries.specs.Levels.{PagesWithin}
 use Rattle.stored.specs.Fitting.{WordsFit}
@@ -100,7 +101,7 @@ fills_anew g w e n fills accepted =
 -- A sound store w, and the store v after the edit.
 module _ (g : Geometry) (plan : Plan) (w v : List ℕ) (p : Pair) (normal : Bool) (behind : ℕ) (lends : Lent g plan w) (fits : WordsFit w) (fits_after : WordsFit v)
     (anew : AcceptedAnew g w (entry p normal)) (reached : behind ≡ reach p (head_slots g w)) (edits : v ≡ edited_behind (entry p normal) behind false w)
-    (passes : fault g w ≡ Sound) where
+    (passes : fault g w ≡ Ok tt) where
   abbrev fit : InRange g
   fit = lends.in_range_lem
 
@@ -123,14 +124,17 @@ module _ (g : Geometry) (plan : Plan) (w v : List ℕ) (p : Pair) (normal : Bool
   good = written_good.1
 
   -- The walk found what the tree holds, at the level of the topmost entry: it is not in the head.
-  walk_told : Found (held p t) (decider p t) ≡ Found (not normal) anew.level
+  walk_told : found (held p t) (decider p t) ≡ found (not normal) anew.level
   walk_told = sym (good_walks g s fit good p) ∙ sym (ap (λ (v : List ℕ). walked g v p) written_good.0) ∙ anew.accepted.walks
 
+  told_alike : ◌≡◌ {A = Found} (record { held = held p t; level = decider p t }) (record { held = not normal; level = anew.level })
+  told_alike = let z : found (held p t) (decider p t) ≡ found (not normal) anew.level = walk_told in cc
+
   pair_held : held p t ≡ not normal
-  pair_held = let z : Found (held p t) (decider p t) ≡ Found (not normal) anew.level = walk_told in cc
+  pair_held = ap (λ (f : Found). f.held) told_alike
 
   level_told : decider p t ≡ anew.level
-  level_told = let z : Found (held p t) (decider p t) ≡ Found (not normal) anew.level = walk_told in cc
+  level_told = ap (λ (f : Found). f.level) told_alike
 
   -- So the edited store is the writing of the state with its head toggled, from where a cascade may begin.
   abbrev begun : State

@@ -17,22 +17,23 @@ ghost use Rattle.change.specs.Head.{LiveMoves, Editable, Accepted};
 
 use edit::{add_entry, entry_counts, remove_entry};
 use entries::Entry;
-use fault::{Fault, Judged};
+use fault::Fault;
 use form::HeadRead;
-use geometry::{Geometry, Plan};
+use geometry::{Geometry, Plan, Store};
 use slot::SlotNo;
 
-// What a change came to: live pairs, the deepest level merged into and the pages written, or a fault, with nothing changed.
+// What a change did: live pairs, the deepest level merged into and the pages written.
 #[derive(Clone, Copy)]
-pub enum Outcome {
-    Done(u32, u32, u32),
-    Fault(Fault),
+pub struct Done {
+    pub live: u32,
+    pub deepest: u32,
+    pub pages: u32,
 }
 
-// What came of a change, with the index entries in each level.
+// What came of a change, with the index entries in each level. Where a fault was found, nothing is changed.
 #[derive(Clone, Copy)]
 pub struct Report {
-    pub outcome: Outcome,
+    pub outcome: Result<Done, Fault>,
     pub entries: [u32; 4],
 }
 
@@ -65,7 +66,12 @@ pub fn change(
         return change_and_settle(store, work, g, plan, entry, head.reach);
     }
     edit_head(store, entry, head.reach, own);
-    done(store, g, plan, 0, 0)
+    let changed = Store {
+        words: store,
+        geometry: g,
+        plan,
+    };
+    done_on(&changed, 0, 0)
 }
 
 // Whether the head has its capacity of entries with one more, and so is to be merged.
@@ -73,10 +79,7 @@ fn fills_head(g: Geometry, entries: u32, own: bool) -> bool
     requires { entries ≤ most_head }
     ensures { result ≡ (not own && leb g.head (suc entries)) }
 {
-    if own {
-        return false;
-    }
-    g.head <= entries + 1
+    !own && g.head <= entries + 1
 }
 
 // The whole store is tested before any change.
@@ -94,16 +97,19 @@ fn change_and_settle(
     requires reach_value { reach ≡ reach_of entry.pair (head_slots g store.old) }
     ensures { told result store.new work.new ≡ merged_change g (indexed entry) store.old work.old }
 {
-    match sound::whole_fault(store, g, plan) {
-        Judged::FaultAt(fault) => Report {
-            outcome: Outcome::Fault(fault),
+    let tested = Store {
+        words: store,
+        geometry: g,
+        plan,
+    };
+    if let Err(fault) = sound::whole_fault(&tested) {
+        return Report {
+            outcome: Err(fault),
             entries: [0; 4],
-        },
-        Judged::Sound => {
-            edit_head(store, entry, reach, false);
-            settle_head(store, work, g, plan)
-        }
+        };
     }
+    edit_head(store, entry, reach, false);
+    settle_head(store, work, g, plan)
 }
 
 // Settles the head, and leaves the work area unused.
@@ -116,7 +122,12 @@ fn settle_head(store: &mut [u32], work: &mut [u32], g: Geometry, plan: Plan) -> 
     let settled = merge::settle(store, work, g, 0);
     let end = work.len();
     words::erase(work, 0, end);
-    done(store, g, plan, settled.deepest, settled.pages)
+    let changed = Store {
+        words: store,
+        geometry: g,
+        plan,
+    };
+    done_on(&changed, settled.deepest, settled.pages)
 }
 
 // Edits the head after its first `reach` slots, and changes live with it.
@@ -150,13 +161,17 @@ fn live_after(live: u32, normal: bool) -> u32
 }
 
 // A change that is done, told of the store as it stands.
-fn done(store: &[u32], g: Geometry, plan: Plan, deepest: u32, pages: u32) -> Report
-    requires lent { Lent g plan store.now }
-    requires pages_within { PagesWithin g store.now }
-    ensures { result ≡ done_on g store.now deepest pages }
+fn done_on(store: &Store, deepest: u32, pages: u32) -> Report
+    requires { PagesWithin store.now.geometry store.now.words.now }
+    ensures { result ≡ done_on store.now.geometry store.now.words.now deepest pages }
 {
+    let live = store.words[geometry::LIVE];
     Report {
-        outcome: Outcome::Done(store[geometry::LIVE], deepest, pages),
-        entries: entry_counts(store, g, plan),
+        outcome: Ok(Done {
+            live,
+            deepest,
+            pages,
+        }),
+        entries: entry_counts(store),
     }
 }

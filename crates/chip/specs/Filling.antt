@@ -1,5 +1,5 @@
 -- Words filled one after another: from each place on, what is left to fill goes to the same words. Assumes nothing.
-use Rattle.std.specs.Prelude.{ℕ, suc, ◌+◌, ◌*◌, ◌/◌, ◌≤◌, ◌<◌, ◌≡◌, refl, List, [], length, set, drop}
+use Rattle.std.specs.Prelude.{ℕ, suc, ◌+◌, ◌*◌, ◌/◌, ◌≤◌, ◌<◌, ◌≡◌, refl, List, length, set, drop}
 use Rattle.std.proofs.Common.{add-one, arith, sym, ap, ◌∙◌, length-set, length-drop}
 use Rattle.std.proofs.lemmas.List.Edits.{sets}
 use Rattle.chip.specs.Bytes.{word_bytes, words_of, word_at, words_next, words_none}

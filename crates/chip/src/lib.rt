@@ -12,11 +12,8 @@ pub fn fill_words(bytes: &[u8], words: &mut [u32])
     requires { length bytes.now / word_bytes ≤ length words.old }
     ensures { words.new ≡ sets words.old 0 (words_of bytes.now) }
 {
-    let n = bytes.len() / WORD_BYTES;
-    let mut i = 0;
-    while i < n {
+    for i in 0..bytes.len() / WORD_BYTES {
         words[i] = word_at(bytes, WORD_BYTES * i);
-        i += 1;
     }
 }
 
@@ -25,13 +22,5 @@ pub fn word_at(bytes: &[u8], at: usize) -> u32
     requires { at + word_bytes ≤ length bytes.now }
     ensures { result ≡ word_at bytes.now at }
 {
-    let low = wide(bytes[at]) + 256 * wide(bytes[at + 1]);
-    let high = wide(bytes[at + 2]) + 256 * wide(bytes[at + 3]);
-    low + 65536 * high
-}
-
-fn wide(byte: u8) -> u32
-    ensures { (result ≡ byte) × (result < 256) }
-{
-    byte as u32
+    u32::from_le_bytes([bytes[at], bytes[at + 1], bytes[at + 2], bytes[at + 3]])
 }

@@ -18,11 +18,11 @@ use Rattle.rules.specs.Merging.{State, formatted}
 use Rattle.rules.specs.Finding.{held}
 use Rattle.rules.specs.Listing.{list}
 use Rattle.rules.specs.Store.{writing, empty_store}
-use Rattle.fault.specs.declared.Judged.TheVariants.{Sound}
+use Rattle.std.specs.Prelude.{Ok}
 use Rattle.rules.specs.Faults.{fault}
 use Rattle.geometry.specs.Directory.{geometry_of}
 use Rattle.rules.specs.Requests.{Request, step, pair_in}
-use Rattle.walk.specs.declared.Walked.TheVariants.{Found}
+use Rattle.walk.specs.Walked.{found}
 use Rattle.walk.specs.Walk.{walked}
 use Rattle.finding.specs.Asked.{decider}
 use Rattle.promises.specs.Written.{good_length, good_geometry, good_tree, good_sound, good_walks}
@@ -90,7 +90,7 @@ module _ (g : Geometry) (s : State) (set : List Pair) (rest : List ℕ) (fit : I
     stored : geometry_of w ≡ g
     stored = good_geometry g s fit holds.good
 
-    walk_tells : (p : Pair) → walk_reply (walked (geometry_of w) w p) ≡ walk_reply (Found (held p s.tree) (decider p s.tree))
+    walk_tells : (p : Pair) → walk_reply (walked (geometry_of w) w p) ≡ walk_reply (found (held p s.tree) (decider p s.tree))
     walk_tells p = ap (λ (h : Geometry). walk_reply (walked h w p)) stored ∙ ap walk_reply (good_walks g s fit holds.good p)
 
     ask_whole : (p : Pair) → Agreed (asking p)
@@ -120,7 +120,7 @@ module _ (g : Geometry) (s : State) (set : List Pair) (rest : List ℕ) (fit : I
     unfolding make comes_to seen_of answer_to writes_by given moves_to leaves pages_in refusal tests_of first_failing list fills_slice
     list_whole first second slice =
         let c = lending (listing first second slice) in
-        let passes : fault (geometry_of w) w ≡ Sound = ap (λ (h : Geometry). fault h w) stored ∙ good_sound g s fit holds.good in
+        let passes : fault (geometry_of w) w ≡ Ok tt = ap (λ (h : Geometry). fault h w) stored ∙ good_sound g s fit holds.good in
         let told = ap (λ (pairs : List Pair). fills_slice pairs slice) (holds_lists g s set holds first second) in
         passed_agrees g s set words c stands (rw (fits, first_failing) refl)
         (rw (whole, ← (list_tested w first second slice opened), passes, stored, good_tree g s fit holds.good) told) refl

@@ -18,7 +18,7 @@ use Rattle.rules.specs.Tree.{Entry, Level, Tree, level}
 use Rattle.rules.specs.Finding.{Met, absent, met, find, held}
 use Rattle.rules.specs.Merging.{State, Settled, toggle, toggle_head, edit, entries}
 use Rattle.rules.specs.Store.{writing}
-use Rattle.fault.specs.declared.Judged.TheVariants.{Sound}
+use Rattle.std.specs.Prelude.{Ok}
 use Rattle.rules.specs.Sound.{head_slots, entries_of, tree_of, ascending}
 use Rattle.rules.specs.Good.{Good}
 use Rattle.entries.specs.Ascending.{from_ascending}

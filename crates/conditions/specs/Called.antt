@@ -18,11 +18,11 @@ use Rattle.rules.specs.Merging.{State, formatted}
 use Rattle.rules.specs.Finding.{held}
 use Rattle.rules.specs.Listing.{list}
 use Rattle.rules.specs.Store.{writing, empty_store}
-use Rattle.fault.specs.declared.Judged.TheVariants.{Sound}
+use Rattle.std.specs.Prelude.{Ok}
 use Rattle.rules.specs.Faults.{fault}
 use Rattle.geometry.specs.Directory.{geometry_of}
 use Rattle.rules.specs.Requests.{Request, step, pair_in}
-use Rattle.walk.specs.declared.Walked.TheVariants.{Found}
+use Rattle.walk.specs.Walked.{found}
 use Rattle.walk.specs.Walk.{walked}
 use Rattle.finding.specs.Asked.{decider}
 use Rattle.promises.specs.Written.{good_length, good_geometry, good_tree, good_sound, good_walks}

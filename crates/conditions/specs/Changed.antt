@@ -18,7 +18,7 @@ use Rattle.rules.specs.Tree.{Entry, Level, Tree, level}
 use Rattle.rules.specs.Finding.{Met, absent, met, find, held}
 use Rattle.rules.specs.Merging.{State, Settled, toggle, toggle_head, edit, entries}
 use Rattle.rules.specs.Store.{writing}
-use Rattle.fault.specs.declared.Judged.TheVariants.{Sound}
+use Rattle.std.specs.Prelude.{Ok}
 use Rattle.rules.specs.Sound.{head_slots, entries_of, tree_of, ascending}
 use Rattle.rules.specs.Good.{Good}
 use Rattle.entries.specs.Ascending.{from_ascending}
@@ -41,7 +41,7 @@ work_after (suc deepest) work = replicate (length work) erased
 -- What the rules give an accepted put or drop, in words.
 unfoldable pub ruled_change : Geometry → ℕ → Settled → List ℕ → Changed
 ruled_change g live s work = record {
-  fault = Sound;
+  fault = (Ok tt);
   values = live ∷ s.deepest ∷ length s.written ∷ entries s.tree;
   store = writing g (record { live = live; tree = s.tree });
   work = work_after s.deepest work;

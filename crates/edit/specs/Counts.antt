@@ -5,7 +5,7 @@ use Rattle.std.proofs.Math.Nat.{sub-zero, min-le_right}
 use Rattle.std.proofs.Math.Numerals.{add-one}
 use native.Mathlib.Omega.{arith}
 use Rattle.std.specs.Prelude.{◌≡◌, refl, Bool, true, false, not, cond, get_or}
-use mathlib.Core.List.{List, [], ◌∷◌}
+use mathlib.Core.List.{List, ◌∷◌}
 use Rattle.std.proofs.Math.ListN.{length}
 use Rattle.laws.specs.Lists.{span, concat}
 use Rattle.geometry.specs.declared.Geometry.{Geometry}

@@ -4,7 +4,6 @@
 ghost use Rattle.std.specs.Prelude.{◌+◌, ◌*◌, ◌≤◌, ◌<◌, ◌≡◌, length, get_or, set};
 ghost use Rattle.std.proofs.lemmas.List.Edits.{sets};
 ghost use Rattle.std.proofs.Math.Seq.{slice};
-ghost use Rattle.geometry.specs.Lent.{Lent};
 ghost use Rattle.geometry.specs.Places.{live_word, head_count_word, head_start, words_in_slot};
 ghost use Rattle.slot.specs.Slot.{words_of};
 ghost use Rattle.rules.specs.Level.{index};
@@ -15,12 +14,13 @@ ghost use Rattle.entries.specs.Levels.{AllInside, PagesWithin, tree_in};
 ghost use Rattle.edit.specs.Head.{slot_in, slot_out, entry_added, entry_removed};
 
 use entries::{Entry, Run, Runs};
-use geometry::{Geometry, Plan, SLOT_WORDS};
+use geometry::{ERASED, SLOT_WORDS, Store};
 use laws::one_if;
 use page::is_fence;
 use slot::{Pid, Slot, SlotNo, read_slot};
 
 // Inserts an entry after the head's first `behind` slots.
+#[tactic(auto, unfolding(crate::specs::Head::entry_added, geometry::specs::Places::head_place, rules::specs::Level::index))]
 pub fn add_entry(store: &mut [u32], entry: Entry, behind: u32)
     requires behind_bound { behind ≤ get_or store.old head_count_word 0 }
     requires head_count_word_in_bounds { head_start + words_in_slot * (get_or store.old head_count_word 0 + 1) ≤ length store.old }
@@ -35,6 +35,7 @@ pub fn add_entry(store: &mut [u32], entry: Entry, behind: u32)
 }
 
 // Removes the entry in a slot of the head.
+#[tactic(auto, unfolding(crate::specs::Head::entry_removed, geometry::specs::Places::head_place))]
 pub fn remove_entry(store: &mut [u32], at: SlotNo)
     requires at_bound { at.0 < get_or store.old head_count_word 0 }
     requires head_count_word_in_bounds { head_start + words_in_slot * get_or store.old head_count_word 0 ≤ length store.old }
@@ -54,11 +55,7 @@ fn put_in(words: &mut [u32], place: usize, end: usize, slot: Slot)
     requires page_value { slot.page.0 ≡ 0 }
     ensures { words.new ≡ slot_in slot place end words.old }
 {
-    let mut i = end;
-    while place < i {
-        i -= 1;
-        words[i + SLOT_WORDS] = words[i];
-    }
+    words.copy_within(place..end, place + SLOT_WORDS);
     slot::write_slot(words, place, slot);
 }
 
@@ -67,40 +64,26 @@ fn take_out(words: &mut [u32], place: usize, end: usize)
     requires { (place + words_in_slot ≤ end) × (end ≤ length words.old) }
     ensures { words.new ≡ slot_out place end words.old }
 {
-    let mut i = place;
-    while i + SLOT_WORDS < end {
-        words[i] = words[i + SLOT_WORDS];
-        i += 1;
-    }
-    words[i] = geometry::ERASED;
-    words[i + 1] = geometry::ERASED;
-    words[i + 2] = geometry::ERASED;
+    words.copy_within(place + SLOT_WORDS..end, place);
+    words[end - SLOT_WORDS..end].fill(ERASED);
 }
 
 // The index entries in each level, by kind alone.
-pub fn entry_counts(store: &[u32], g: Geometry, plan: Plan) -> [u32; 4]
-    requires lent { Lent g plan store.now }
-    requires pages_within { PagesWithin g store.now }
-    ensures { result ≡ entries (tree_of g store.now) }
+pub fn entry_counts(store: &Store) -> [u32; 4]
+    requires { PagesWithin store.now.geometry store.now.words.now }
+    ensures { result ≡ entries (tree_of store.now.geometry store.now.words.now) }
 {
-    let runs = entries::runs_of(store, g, plan);
-    counts_in(store, runs)
+    counts_in(store.words, entries::runs_of(store))
 }
 
 // The index entries in each of four runs.
+#[tactic(auto, unfolding(rules::specs::Merging::entries, laws::specs::Lists::span, entries::specs::Levels::tree_in))]
 fn counts_in(words: &[u32], runs: Runs) -> [u32; 4]
     requires { AllInside runs (length words.now) }
     ensures { result ≡ entries (tree_in words.now runs) }
 {
-    let run = runs.head;
-    let head = count_entries(words, run);
-    let run = runs.first;
-    let first = count_entries(words, run);
-    let run = runs.second;
-    let second = count_entries(words, run);
-    let run = runs.third;
-    let third = count_entries(words, run);
-    [head, first, second, third]
+    let counts = runs.map(|run| count_entries(words, run));
+    [counts.head, counts.first, counts.second, counts.third]
 }
 
 // The index entries of a run.
@@ -108,11 +91,9 @@ pub fn count_entries(words: &[u32], run: Run) -> u32
     requires { Inside run (length words.now) }
     ensures { result ≡ length (entries_in words.now run) }
 {
-    let mut count: u32 = 0;
-    let mut page: u32 = 0;
-    while page < run.pages {
+    let mut count = 0;
+    for page in 0..run.pages {
         count += count_in_page(words, run, Pid(page));
-        page += 1;
     }
     count
 }
@@ -124,14 +105,10 @@ fn count_in_page(words: &[u32], run: Run, page: Pid) -> u32
     ensures exact { result ≡ length (entries_of (page_in words.now run page.0)) }
     ensures few { result ≤ 4000 }
 {
-    let slots = entries::count_in(words, run, page);
-    let mut count: u32 = 0;
-    let mut slot: u32 = 0;
-    while slot < slots {
+    let mut count = 0;
+    for slot in 0..entries::count_in(words, run, page) {
         let read = read_slot(words, entries::place_in(run, page, SlotNo(slot)));
-        let kind = read.kind;
-        count += one_if(!is_fence(kind));
-        slot += 1;
+        count += one_if(!is_fence(read.kind));
     }
     count
 }

@@ -14,7 +14,7 @@ use Rattle.rules.specs.Tree.{Level, Tree}
 use Rattle.rules.specs.Sound.{slots_from, head_slots, count_at, page_slots, level_slots, entries_of, tree_of}
 use Rattle.geometry.specs.Directory.{pages_of, pages_none}
 use Rattle.entries.specs.declared.Run.{Run}
-use Rattle.entries.specs.declared.Runs.{Runs}
+use Rattle.entries.specs.Four.{Runs}
 use Rattle.entries.specs.Run.{Inside, count_in, place_in, page_in, entries_in}
 
 -- The head is a run of one page, whose slot count stands in word 8; level i's pages begin at its start.

@@ -9,7 +9,7 @@ use Rattle.geometry.specs.Places.{head_count_word, head_room, level_start}
 use Rattle.slot.specs.declared.Slot.{Slot}
 use Rattle.slot.specs.Pair.{rank, before, same}
 use Rattle.slot.specs.Order.{before_below, same_level}
-use Rattle.fault.specs.declared.Judged.TheVariants.{Sound}
+use Rattle.std.specs.Prelude.{Ok}
 use Rattle.rules.specs.Tree.{Level}
 use Rattle.rules.specs.Level.{fence_kind, pages_for}
 use Rattle.rules.specs.Finding.{normal_kind}
@@ -107,12 +107,12 @@ tree_ascends g w h k =
     all_span (λ i. entries_of (level_slots g w i)) 1 (g.levels - 1) (λ j a b. level_ascends g w j (k j a b))
 
 -- A sound store is ready for the calls of this crate's users, and so is one that has no fault but across levels.
-pub writings_ready : (g : Geometry) (w : List ℕ) → directory_right g w ≡ true → writing_faults g w ≡ Sound → PagesWithin g w × (levels_ascend (tree_of g w) ≡ true)
+pub writings_ready : (g : Geometry) (w : List ℕ) → directory_right g w ≡ true → writing_faults g w ≡ Ok tt → PagesWithin g w × (levels_ascend (tree_of g w) ≡ true)
 writings_ready g w right none =
     let told = writings_sound g w none in
     (pages_within g w right, tree_ascends g w (sound_right g w told.0) (λ i l u. told.1 i l (omega arith)))
 
-pub sound_ready : (g : Geometry) (w : List ℕ) → fault g w ≡ Sound → PagesWithin g w × (levels_ascend (tree_of g w) ≡ true)
+pub sound_ready : (g : Geometry) (w : List ℕ) → fault g w ≡ Ok tt → PagesWithin g w × (levels_ascend (tree_of g w) ≡ true)
 sound_ready g w none =
     let told = fault_sound g w none in
     writings_ready g w told.directory (sound_writings g w told.head_sound_lem told.levels)

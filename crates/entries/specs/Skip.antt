@@ -4,7 +4,7 @@ use Rattle.std.proofs.Math.Numerals.{add-one}
 use native.Mathlib.Omega.{arith}
 use Rattle.std.specs.Prelude.{◌≡◌, refl, Bool, true, false, not, ◌&&◌, List, [], ◌∷◌, ◌++◌}
 use Rattle.std.proofs.Math.Path.{ap}
-use Rattle.std.proofs.Common.{sym, ◌∙◌}
+use Rattle.std.proofs.Common.{sym, le_refl, ◌∙◌}
 use Rattle.std.proofs.lemmas.Bool.{not-true}
 use Rattle.laws.specs.Lists.{span}
 use Rattle.laws.specs.Tests.{and_left}
@@ -107,6 +107,12 @@ slot_in w run p j = slot_at w (place_in run p j)
 unfoldable pub page_from : List ℕ → Run → ℕ → ℕ → Level
 page_from w run p j = entries_of (span (slot_in w run p) j (count_in w run p - j))
 
+-- Slot `to` is the first one from slot `from` on that is an index entry not before a pair.
+pub record Met (w : List ℕ) (run : Run) (p : ℕ) (pair : Pair) (from to : ℕ) : Type 0 where
+  pub in_page : to < count_in w run p
+  pub moved : page_from w run p to ≡ skip pair (page_from w run p from)
+  pub stops : stops_at pair (slot_in w run p to) ≡ true
+
 pub slot_read : (w : List ℕ) (run : Run) (p j place : ℕ) (s : Slot) → place ≡ place_in run p j → s ≡ slot_at w place → s ≡ slot_in w run p j
 unfolding slot_in
 slot_read w run p j place s at read = read ∙ ap (slot_at w) at
@@ -139,6 +145,9 @@ module _ (w : List ℕ) (run : Run) (p : ℕ) (pair : Pair) where
     unfolding skip
     page_over from h same = let done = page_done j (omega (arith, counted)) in done ∙ ap (skip pair) (sym done) ∙ same
 
+    pub page_none : (from : ℕ) → n ≤ j → skip pair (page_from w run p j) ≡ skip pair (page_from w run p from) → skip pair (page_from w run p from) ≡ []
+    page_none from h same = sym (page_over from h same) ∙ page_done j (omega (arith, counted))
+
   rest_page : (j : ℕ) → p < run.pages → rest_from w run p j (run.pages - p) ≡ page_from w run p j ++ rest_from w run (p + 1) 0 (run.pages - (p + 1))
   unfolding rest_from page_from slot_in
   rest_page j h =
@@ -155,6 +164,12 @@ module _ (w : List ℕ) (run : Run) (p : ℕ) (pair : Pair) where
     rest_met b s =
         let here = page_on to (omega (arith, counted)) ∙ index_first (slot_in w run p to) (span (slot_in w run p) (suc to) (count_in w run p - suc to)) (stops_index pair (slot_in w run p to) s) in
         rw (rest_page from h, rest_page to h, moved) (sym (skip_within pair (page_from w run p from) _ _ _ (sym moved ∙ here)))
+
+  pub rest_passed : (from : ℕ) → p < run.pages → skip pair (page_from w run p from) ≡ [] →
+      skip pair (rest_from w run (p + 1) 0 (run.pages - (p + 1))) ≡ skip pair (rest_from w run p from (run.pages - p))
+  rest_passed from h none =
+      let n = count_in w run p in
+      rest_left n from n refl h (page_done n (le_refl n) ∙ sym none) (le_refl n)
 
 -- Past the last page nothing is skipped.
 pub rest_over : (w : List ℕ) (run : Run) (p j : ℕ) (pair : Pair) → run.pages ≤ p →

@@ -12,8 +12,8 @@ use Rattle.rules.specs.Level.{fence_kind}
 use Rattle.rules.specs.Finding.{normal_kind}
 use Rattle.entries.specs.declared.Run.{Run}
 use Rattle.entries.specs.declared.Cursor.{Cursor}
-use Rattle.entries.specs.declared.Runs.{Runs}
-use Rattle.entries.specs.declared.Spots.{Spots}
+use Rattle.entries.specs.Four.{Runs}
+use Rattle.entries.specs.Four.{Spots}
 use Rattle.entries.specs.declared.Entry.{Entry}
 use Rattle.entries.specs.Run.{Inside, count_in, place_in, rest_from, rest, entries_in, shown_index, slot_inside, rest_none, rest_all, rest_found}
 use Rattle.entries.specs.Levels.{tree_in}

@@ -1,17 +1,15 @@
 // The index entries of one run in lent words, a level's pages or the head, in turn: from a spot on, and from a pair on.
 #![tactic(auto)]
 
-ghost use Rattle.std.specs.Prelude.{◌+◌, ◌^◌, ◌<◌, ◌≤◌, ◌≡◌, true, ◌∷◌, length, leb};
+ghost use Rattle.std.specs.Prelude.{◌+◌, ◌^◌, ◌<◌, ◌≤◌, ◌≡◌, [], ◌∷◌, length, leb, IfSome, IfNone};
 ghost use Rattle.rules.specs.Level.{index};
+ghost use Rattle.entries.specs.Four.{Each, EachTwo, EachThree, Upward};
 ghost use Rattle.entries.specs.Run.{Inside, entry as indexed, count_in, place_in};
 ghost use Rattle.entries.specs.Levels.{AllInside, head_run, level_run, runs_of};
-ghost use Rattle.entries.specs.Skip.{skip, skip_all, stops_at, page_from, slot_in};
+ghost use Rattle.entries.specs.Skip.{skip, skip_all, stops_at, page_from, Met};
 ghost use Rattle.entries.specs.Spot.{spot_of, cursor_at, page_at, upcoming, upcomings, Standing, AllStanding};
-ghost use Rattle.geometry.specs.Places.{plan_of};
-ghost use Rattle.geometry.specs.Lent.{Lent};
 
-use geometry::{Geometry, Plan};
-use laws::both;
+use geometry::Store;
 use page::{is_fence, is_normal};
 use slot::{Kind, Pair, Pid, Slot, SlotNo};
 
@@ -40,60 +38,90 @@ pub struct Entry {
     pub normal: bool,
 }
 
-// The runs of four levels, from the top down. A level that does not exist has no pages.
+// A value for each of four levels, from the top down.
 #[derive(Clone, Copy)]
-pub struct Runs {
-    pub head: Run,
-    pub first: Run,
-    pub second: Run,
-    pub third: Run,
+pub struct Four<T> {
+    pub head: T,
+    pub first: T,
+    pub second: T,
+    pub third: T,
 }
 
+// The runs of four levels. A level that does not exist has no pages.
+pub type Runs = Four<Run>;
+
 // Spots in each of four runs.
-#[derive(Clone, Copy)]
-pub struct Spots {
-    pub head: u64,
-    pub first: u64,
-    pub second: u64,
-    pub third: u64,
+pub type Spots = Four<u64>;
+
+impl<T: Copy> Four<T> {
+    // What a function makes of each level's value.
+    pub fn map<V, F: Fn(T) -> V>(self, f: F) -> Four<V>
+        requires { Each (F.pre f) self }
+        ensures { EachTwo (F.post f) self result }
+    {
+        Four {
+            head: f(self.head),
+            first: f(self.first),
+            second: f(self.second),
+            third: f(self.third),
+        }
+    }
+
+    // What a function makes of each level's two values.
+    pub fn zip_map<U: Copy, V, F: Fn(T, U) -> V>(self, other: Four<U>, f: F) -> Four<V>
+        requires { EachTwo (F.pre f) self other }
+        ensures { EachThree (F.post f) self other result }
+    {
+        Four {
+            head: f(self.head, other.head),
+            first: f(self.first, other.first),
+            second: f(self.second, other.second),
+            third: f(self.third, other.third),
+        }
+    }
+
+    // What a function makes of each level's two values over what it made of the level below, from the bottom up.
+    pub fn zip_up<U: Copy, V, F: Fn(T, U, V) -> V>(self, other: Four<U>, start: V, f: F) -> V
+        requires { EachTwo (λ x y. (below : V) → F.pre f x y below) self other }
+        ensures { Upward (F.post f) self other start result }
+    {
+        let lowest = f(self.third, other.third, start);
+        let lower = f(self.second, other.second, lowest);
+        let upper = f(self.first, other.first, lower);
+        f(self.head, other.head, upper)
+    }
 }
 
 // The runs of a store's levels.
-pub fn runs_of(store: &[u32], g: Geometry, plan: Plan) -> Runs
-    requires { Lent g plan store.now }
-    ensures { result ≡ runs_of g store.now }
+#[tactic(auto, unfolding(crate::specs::Levels::runs_of))]
+pub fn runs_of(store: &Store) -> Runs
+    ensures { result ≡ runs_of store.now.geometry store.now.words.now }
 {
-    let head = head_run(g, plan);
-    let first = level_run(store, g, plan, 1);
-    let second = level_run(store, g, plan, 2);
-    let third = level_run(store, g, plan, 3);
-    Runs {
-        head,
-        first,
-        second,
-        third,
+    Four {
+        head: head_run(store),
+        first: level_run(store, 1),
+        second: level_run(store, 2),
+        third: level_run(store, 3),
     }
 }
 
 // The head's run: one page, from the head's count on.
-pub fn head_run(g: Geometry, plan: Plan) -> Run
-    requires { plan ≡ plan_of g }
-    ensures { result ≡ head_run g }
+pub fn head_run(store: &Store) -> Run
+    ensures { result ≡ head_run store.now.geometry }
 {
     Run {
         start: geometry::HEAD_COUNT as u32,
         pages: 1,
-        most: plan.head_room,
+        most: store.plan.head_room,
     }
 }
 
 // The run of a level below the head. A level that does not exist has no pages.
-pub fn level_run(store: &[u32], g: Geometry, plan: Plan, level: u32) -> Run
-    requires lent { Lent g plan store.now }
-    requires le_level { (1 ≤ level) × (level ≤ 3) }
-    ensures { result ≡ level_run g store.now level }
+pub fn level_run(store: &Store, level: u32) -> Run
+    requires { (1 ≤ level) × (level ≤ 3) }
+    ensures { result ≡ level_run store.now.geometry store.now.words.now level }
 {
-    let place = geometry::level_place(store, g, plan, level);
+    let place = store.level_place(level);
     Run {
         start: place.start,
         pages: place.pages,
@@ -102,16 +130,17 @@ pub fn level_run(store: &[u32], g: Geometry, plan: Plan, level: u32) -> Run
 }
 
 // The slot count of a page, read as at most the run's.
+#[tactic(auto, unfolding(crate::specs::Run::count_in))]
 pub fn count_in(words: &[u32], run: Run, page: Pid) -> u32
     requires inside { Inside run (length words.now) }
     requires page_lt_pages { page.0 < run.pages }
     ensures { result ≡ count_in words.now run page.0 }
 {
-    let count = words[run.start as usize + geometry::PAGE_WORDS * page.0 as usize];
-    if count < run.most { count } else { run.most }
+    words[run.start as usize + geometry::PAGE_WORDS * page.0 as usize].min(run.most)
 }
 
 // The first word of a slot of a page.
+#[tactic(auto, unfolding(crate::specs::Run::place_in))]
 pub fn place_in(run: Run, page: Pid, slot: SlotNo) -> usize
     ensures { result ≡ place_in run page.0 slot.0 }
 {
@@ -122,20 +151,17 @@ pub fn place_in(run: Run, page: Pid, slot: SlotNo) -> usize
 }
 
 // The slot that an index entry is written in.
+#[tactic(auto, unfolding(rules::specs::Level::index))]
 pub fn index_of(entry: Entry) -> Slot
     ensures { result ≡ index (indexed entry) }
 {
-    let pair = entry.pair;
-    if entry.normal {
-        return Slot {
-            pair,
-            kind: Kind::Normal,
-            page: Pid(0),
-        };
-    }
     Slot {
-        pair,
-        kind: Kind::Filter,
+        pair: entry.pair,
+        kind: if entry.normal {
+            Kind::Normal
+        } else {
+            Kind::Filter
+        },
         page: Pid(0),
     }
 }
@@ -146,82 +172,60 @@ pub fn skip_to(words: &[u32], run: Run, from: u64, pair: Pair) -> u64
     ensures told { upcoming words.now run result ≡ skip pair (upcoming words.now run from) }
     ensures standing { Standing words.now run result }
 {
-    let cursor = cursor_at(from);
-    let first = cursor.page;
-    let start = cursor.slot;
-    let mut page = first.0;
-    let mut slot = start.0;
-    while page < run.pages {
-        let count = count_in(words, run, Pid(page));
-        let found = skip_in_page(words, run, Pid(page), SlotNo(slot), pair);
-        if found.0 < count {
+    let Cursor {
+        page: first,
+        mut slot,
+    } = cursor_at(from);
+    for page in first.0..run.pages {
+        if let Some(found) = skip_in_page(words, run, Pid(page), slot, pair) {
             return spot_of(Pid(page), found);
         }
-        page += 1;
-        slot = 0;
+        slot = SlotNo(0);
     }
-    spot_of(Pid(page), SlotNo(slot))
+    spot_of(Pid(run.pages), SlotNo(0))
 }
 
 // Four spots, each moved forward to a pair.
+#[tactic(auto, unfolding(crate::specs::Spot::upcomings, crate::specs::Skip::skip_all))]
 pub fn spots_from(words: &[u32], runs: Runs, spots: Spots, pair: Pair) -> Spots
     requires { AllInside runs (length words.now) }
     ensures told { upcomings words.now runs result ≡ skip_all pair (upcomings words.now runs spots) }
     ensures standing { AllStanding words.now runs result }
 {
-    let run = runs.head;
-    let head = skip_to(words, run, spots.head, pair);
-    let run = runs.first;
-    let first = skip_to(words, run, spots.first, pair);
-    let run = runs.second;
-    let second = skip_to(words, run, spots.second, pair);
-    let run = runs.third;
-    let third = skip_to(words, run, spots.third, pair);
-    Spots {
-        head,
-        first,
-        second,
-        third,
-    }
+    runs.zip_map(spots, |run, spot| skip_to(words, run, spot, pair))
 }
 
-// The first slot of a page from one on that is an index entry not before a pair, or one past the page's slots.
-fn skip_in_page(words: &[u32], run: Run, page: Pid, from: SlotNo, pair: Pair) -> SlotNo
+// The first slot of a page from one on that is an index entry not before a pair.
+fn skip_in_page(words: &[u32], run: Run, page: Pid, from: SlotNo, pair: Pair) -> Option<SlotNo>
     requires inside { Inside run (length words.now) }
     requires page_lt_pages { page.0 < run.pages }
-    ensures told { page_from words.now run page.0 result.0 ≡ skip pair (page_from words.now run page.0 from.0) }
-    ensures stops { result.0 < count_in words.now run page.0 → stops_at pair (slot_in words.now run page.0 result.0) ≡ true }
+    ensures met { IfSome result (λ at. Met words.now run page.0 pair from.0 at.0) }
+    ensures none { IfNone result (skip pair (page_from words.now run page.0 from.0) ≡ []) }
 {
-    let count = count_in(words, run, page);
-    let mut slot = from.0;
-    while slot < count {
+    for slot in from.0..count_in(words, run, page) {
         if stops(
             slot::read_slot(words, place_in(run, page, SlotNo(slot))),
             pair,
         ) {
-            return SlotNo(slot);
+            return Some(SlotNo(slot));
         }
-        slot += 1;
     }
-    SlotNo(slot)
+    None
 }
 
 // Whether a slot is an index entry that is not before a pair.
+#[tactic(auto, unfolding(crate::specs::Skip::stops_at))]
 fn stops(slot: Slot, pair: Pair) -> bool
     ensures { result ≡ stops_at pair slot }
 {
-    let own = slot.pair;
-    let kind = slot.kind;
-    both(!is_fence(kind), !slot::comes_before(own, pair))
+    !is_fence(slot.kind) & !slot::comes_before(slot.pair, pair)
 }
 
 // Whether a run has no page left at a spot.
 pub fn is_ended(run: Run, spot: u64) -> bool
     ensures { result ≡ leb run.pages (page_at spot) }
 {
-    let cursor = cursor_at(spot);
-    let page = cursor.page;
-    run.pages <= page.0
+    run.pages <= cursor_at(spot).page.0
 }
 
 // The index entry that stands at a spot.
@@ -233,25 +237,23 @@ pub fn entry_at(words: &[u32], run: Run, spot: u64) -> Entry
     ensures fits { spot + 1 < 2 ^ 64 }
 {
     let cursor = cursor_at(spot);
-    let page = cursor.page;
-    let number = cursor.slot;
-    let read = slot::read_slot(words, place_in(run, page, number));
-    let pair = read.pair;
-    let kind = read.kind;
+    let slot = slot::read_slot(words, place_in(run, cursor.page, cursor.slot));
     Entry {
-        pair,
-        normal: is_normal(kind),
+        pair: slot.pair,
+        normal: is_normal(slot.kind),
     }
 }
 
 // The spot of a page and a slot number.
+#[tactic(auto, unfolding(crate::specs::Spot::spot_of))]
 fn spot_of(page: Pid, slot: SlotNo) -> u64
     ensures { result ≡ spot_of page.0 slot.0 }
 {
-    PAGE_STEP * page.0 as u64 + slot.0 as u64
+    PAGE_STEP * u64::from(page.0) + u64::from(slot.0)
 }
 
 // The cursor at a spot.
+#[tactic(auto, unfolding(crate::specs::Spot::page_at, crate::specs::Spot::slot_number))]
 pub fn cursor_at(spot: u64) -> Cursor
     ensures { result ≡ cursor_at spot }
 {

@@ -1,2 +1,3 @@
--- The numbers of faults.
+-- The numbers of faults, and what a test comes to.
 pub mod Numbers
+pub mod Judged

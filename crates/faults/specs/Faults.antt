@@ -1,10 +1,9 @@
 -- What the whole-store test tells of any words in which it finds a fault: the number is that of the first test in the order that fails, and the
 -- place is the first of that number, so that nothing before it breaks the rule. Assumes nothing.
-use Rattle.std.specs.Prelude.{ℕ, zero, suc, ◌+◌, ◌-◌, ◌≤◌, ◌≡◌, true, false, ◌↔◌, List, length}
+use Rattle.std.specs.Prelude.{ℕ, zero, suc, ◌+◌, ◌-◌, ◌≤◌, ◌≡◌, true, false, ◌↔◌, List, length, Err, Ok}
 use Rattle.std.proofs.Common.{arith, sym}
 use Rattle.std.proofs.Math.Path.{refl}
 use Rattle.fault.specs.declared.Fault.{Fault}
-use Rattle.fault.specs.declared.Judged.TheVariants.{Sound, FaultAt}
 use Rattle.fault.specs.declared.Part.TheVariants.{Directory, Head, Page, Writing, Kinds}
 use Rattle.fault.specs.Numbers.{number_of, no_place}
 use Rattle.geometry.specs.declared.Geometry.{Geometry}
@@ -22,10 +21,10 @@ use Rattle.faults.specs.Inside.{Inside, zeros_inside, head_inside, page_inside, 
 use Rattle.faults.specs.Order.{formed_exactly, pages_formed, levels_sound, across_right, passes, FirstFails, first_directory, first_head, first_pages, first_writing, first_across, first_fails_once, found_in_directory, found_in_head, found_in_pages, found_in_writing, found_across, told_first, sound_passes, passes_sound}
 
 -- Nothing is told exactly if all five tests pass.
-pub sound_exactly : (g : Geometry) (w : List ℕ) → (fault g w ≡ Sound) ↔ ((n : ℕ) → number_of Directory ≤ n → n ≤ number_of Kinds → passes g w n ≡ true)
+pub sound_exactly : (g : Geometry) (w : List ℕ) → (fault g w ≡ Ok tt) ↔ ((n : ℕ) → number_of Directory ≤ n → n ≤ number_of Kinds → passes g w n ≡ true)
 sound_exactly g w = (sound_passes g w, passes_sound g w)
 
-module _ (g : Geometry) (w : List ℕ) (f : Fault) (told : fault g w ≡ FaultAt f) where
+module _ (g : Geometry) (w : List ℕ) (f : Fault) (told : fault g w ≡ Err f) where
   -- The number -------------------------------------------------------------------------------------------------------------------------------
 
   -- It is one of 10 to 14, and that of the first test in the order that fails: every test before it passes.

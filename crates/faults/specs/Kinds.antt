@@ -2,7 +2,7 @@
 use Prim.Native.Nat.{ℕ, zero, suc, ◌+◌, ◌<◌}
 use Rattle.std.proofs.Common.{zero-add, add-zero, arith, sym, subst, ◌∙◌}
 use Rattle.std.proofs.Math.Path.{◌≡◌, refl, ap}
-use Rattle.std.specs.Prelude.{Bool, true, false, ◌⊎◌, drop}
+use Rattle.std.specs.Prelude.{Bool, true, false, ◌⊎◌, drop, Err, Ok}
 use Rattle.std.proofs.lemmas.Bool.{false≢true}
 use Rattle.std.proofs.Math.Logic.◌⊎◌.{inl, inr}
 use mathlib.Core.List.{List, [], ◌∷◌, ◌++◌}
@@ -11,8 +11,7 @@ use Rattle.std.proofs.Math.Seq.{get_or-append_seam}
 use Rattle.laws.specs.Lists.{all, length_span, get_d_span}
 use Rattle.laws.specs.Flat.{all_join}
 use Rattle.fault.specs.declared.Fault.{Fault}
-use Rattle.fault.specs.declared.Judged.{Judged}
-use Rattle.fault.specs.declared.Judged.TheVariants.{Sound, FaultAt}
+use Rattle.fault.specs.Judged.{Judged}
 use Rattle.fault.specs.declared.Part.TheVariants.{Kinds}
 use Rattle.fault.specs.Numbers.{no_place}
 use Rattle.geometry.specs.declared.Geometry.{Geometry}
@@ -88,7 +87,7 @@ module _ (g : Geometry) (w : List ℕ) where
     unright : all (right_over (drop (suc at) t)) (level at t) ≡ false
     tells : placed Kinds g (i + at) (get_or (entry_places g w (i + at)) (wrong_entry (level at t) (drop (suc at) t)) 0) ≡ f
 
-  kinds_found : (i : ℕ) (t : Tree) (f : Fault) → first_fault (kinds_faults g w i t) ≡ FaultAt f → FoundIn i t f
+  kinds_found : (i : ℕ) (t : Tree) (f : Fault) → first_fault (kinds_faults g w i t) ≡ Err f → FoundIn i t f
   unfolding kinds_faults first_fault
   kinds_found i [] f e = let z : ◌≡◌ {A = ℕ} 0 1 = cc in absurd (omega arith)
   kinds_found i (es ∷ t) f e = chosen (first_found (unless (all (right_over t) es) own) (kinds_faults g w (suc i) t) f e) (kinds_found (suc i) t f)
@@ -101,8 +100,8 @@ module _ (g : Geometry) (w : List ℕ) where
       above here n rest zero u = here
       above here n rest (suc j) u = rest j (omega arith)
 
-      chosen : (unless (all (right_over t) es) own ≡ FaultAt f) ⊎ ((unless (all (right_over t) es) own ≡ Sound) × (first_fault (kinds_faults g w (suc i) t) ≡ FaultAt f)) →
-          (first_fault (kinds_faults g w (suc i) t) ≡ FaultAt f → FoundIn (suc i) t f) → FoundIn i (es ∷ t) f
+      chosen : (unless (all (right_over t) es) own ≡ Err f) ⊎ ((unless (all (right_over t) es) own ≡ Ok tt) × (first_fault (kinds_faults g w (suc i) t) ≡ Err f)) →
+          (first_fault (kinds_faults g w (suc i) t) ≡ Err f → FoundIn (suc i) t f) → FoundIn i (es ∷ t) f
       chosen (inl q) later =
           let told = unless_found (all (right_over t) es) own f q in
           record { at = 0; upper = omega arith; above = λ j u. absurd (omega arith); unright = told.0; tells = rw (add-zero i) told.1 }
@@ -168,25 +167,25 @@ module _ (g : Geometry) (w : List ℕ) where
     of_kinds : FoundIn 0 (tree_of g w) f → Across f
     of_live : alternating (tree_of g w) ≡ true → live_right (get_or w live_word 0) (tree_of g w) ≡ false → no_place Kinds ≡ f → Across f
 
-  across : (f : Fault) → across_fault g w ≡ FaultAt f → Across f
+  across : (f : Fault) → across_fault g w ≡ Err f → Across f
   unfolding across_fault
   across f e = chosen (joined_found (kinds_faults g w 0 (tree_of g w)) (live ∷ []) f e)
     where
-      chosen : (first_fault (kinds_faults g w 0 (tree_of g w)) ≡ FaultAt f) ⊎
-          ((first_fault (kinds_faults g w 0 (tree_of g w)) ≡ Sound) × (first_fault (live ∷ []) ≡ FaultAt f)) → Across f
+      chosen : (first_fault (kinds_faults g w 0 (tree_of g w)) ≡ Err f) ⊎
+          ((first_fault (kinds_faults g w 0 (tree_of g w)) ≡ Ok tt) × (first_fault (live ∷ []) ≡ Err f)) → Across f
       chosen (inl q) = of_kinds (kinds_found 0 (tree_of g w) f q)
       chosen (inr (s, r)) =
           let told = unless_found (live_right (get_or w live_word 0) (tree_of g w)) (no_place Kinds) f (only_found live f r) in
           of_live (kinds_sound g w 0 (tree_of g w) s) told.0 told.1
 
-  pub across_part : (f : Fault) → across_fault g w ≡ FaultAt f → f.part ≡ Kinds
+  pub across_part : (f : Fault) → across_fault g w ≡ Err f → f.part ≡ Kinds
   across_part f e = chosen (across f e)
     where
       chosen : Across f → f.part ≡ Kinds
       chosen (of_kinds found) = ap (λ (x : Fault). x.part) (sym found.tells)
       chosen (of_live alternates wrong own) = ap (λ (x : Fault). x.part) (sym own)
 
-  pub across_first : InRange g → (f : Fault) → across_fault g w ≡ FaultAt f → WrongAcross g w f
+  pub across_first : InRange g → (f : Fault) → across_fault g w ≡ Err f → WrongAcross g w f
   across_first fit f e = chosen (across f e)
     where
       chosen : Across f → WrongAcross g w f

@@ -3,7 +3,7 @@
 use Prim.Native.Nat.{ℕ, zero, suc, ◌+◌, ◌-◌, ◌≤◌, ◌<◌}
 use Rattle.std.proofs.Common.{zero-add, sym, ap, ◌∙◌, ltb-true, ltb-false}
 use native.Mathlib.Omega.{arith}
-use Rattle.std.specs.Prelude.{◌≡◌, Bool, true, ◌&&◌, ◌↔◌, get_or, ltb}
+use Rattle.std.specs.Prelude.{◌≡◌, Bool, true, ◌&&◌, ◌↔◌, get_or, ltb, Err, Ok}
 use Rattle.std.proofs.Math.Path.{refl}
 use Rattle.std.proofs.Math.Bool.{false}
 use Rattle.std.proofs.lemmas.Bool.{false≢true}
@@ -14,8 +14,7 @@ use Rattle.laws.specs.Tests.{and_left, and_right}
 use Rattle.laws.specs.Lists.{span, all, length_span, get_d_span, all_at}
 use Rattle.laws.specs.Flat.{all_span}
 use Rattle.fault.specs.declared.Fault.{Fault}
-use Rattle.fault.specs.declared.Judged.{Judged}
-use Rattle.fault.specs.declared.Judged.TheVariants.{Sound, FaultAt}
+use Rattle.fault.specs.Judged.{Judged}
 use Rattle.fault.specs.declared.Part.TheVariants.{Directory, Head, Page, Writing, Kinds}
 use Rattle.fault.specs.Numbers.{number_of, no_place}
 use Rattle.geometry.specs.declared.Geometry.{Geometry}
@@ -65,7 +64,7 @@ all_levels_lem t n e (suc i) l u =
     rw numbered at (all_at t (span suc 0 n) i 0 e (rw (length_span suc 0 n) (omega arith)))
 
 module _ (g : Geometry) (w : List ℕ) where
-  pub formed_exactly : (form_faults g w ≡ Sound) ↔ (pages_formed g w ≡ true)
+  pub formed_exactly : (form_faults g w ≡ Ok tt) ↔ (pages_formed g w ≡ true)
   unfolding pages_formed
   formed_exactly = (
     λ none.
@@ -76,14 +75,14 @@ module _ (g : Geometry) (w : List ℕ) where
         (λ i p l u v. all_numbered (page_formed g w i) (pages_of g w i) (all_levels_lem (λ j. all (page_formed g w j) (span (λ q. q) 0 (pages_of g w j))) (bottom g) formed i l (omega arith)) p v),
   )
 
-  pub levels_exactly : (writing_faults g w ≡ Sound) ↔ (levels_sound g w ≡ true)
+  pub levels_exactly : (writing_faults g w ≡ Ok tt) ↔ (levels_sound g w ≡ true)
   unfolding levels_sound
   levels_exactly = (
     λ none. let told = writings_sound g w none in rw told.0 (all_span (level_sound g w) suc 0 (bottom g) (λ i u. told.1 (suc i) (omega arith) (omega arith))),
     λ sound. sound_writings g w (and_left _ _ sound) (λ i l u. all_levels_lem (level_sound g w) (bottom g) (and_right (head_sound g w) _ sound) i l (omega arith)),
   )
 
-  pub across_exactly : (across_fault g w ≡ Sound) ↔ (across_right g w ≡ true)
+  pub across_exactly : (across_fault g w ≡ Ok tt) ↔ (across_right g w ≡ true)
   unfolding across_right
   across_exactly = (
     λ none. let told = across_sound g w none in rw (told.0, told.1) refl,
@@ -91,18 +90,18 @@ module _ (g : Geometry) (w : List ℕ) where
   )
 
 -- Of tests in order, the first finds the fault that is told if it fails, and one of the rest if it passes.
-fails_finds : (j : Judged) (js : List Judged) (b : Bool) (f : Fault) → (j ≡ Sound) ↔ (b ≡ true) → first_fault (j ∷ js) ≡ FaultAt f → b ≡ false → j ≡ FaultAt f
+fails_finds : (j : Judged) (js : List Judged) (b : Bool) (f : Fault) → (j ≡ Ok tt) ↔ (b ≡ true) → first_fault (j ∷ js) ≡ Err f → b ≡ false → j ≡ Err f
 unfolding first_fault
-fails_finds Sound js b f agree e wrong = absurd (false≢true (sym wrong ∙ agree.0 refl))
-fails_finds (FaultAt h) js b f agree e wrong = e
+fails_finds (Ok tt) js b f agree e wrong = absurd (false≢true (sym wrong ∙ agree.0 refl))
+fails_finds (Err h) js b f agree e wrong = e
 
-passes_on : (j : Judged) (js : List Judged) (b : Bool) (f : Fault) → (j ≡ Sound) ↔ (b ≡ true) → first_fault (j ∷ js) ≡ FaultAt f → b ≡ true → first_fault js ≡ FaultAt f
+passes_on : (j : Judged) (js : List Judged) (b : Bool) (f : Fault) → (j ≡ Ok tt) ↔ (b ≡ true) → first_fault (j ∷ js) ≡ Err f → b ≡ true → first_fault js ≡ Err f
 unfolding first_fault
 passes_on j js b f agree e right = rw (agree.1 right) at e
 
 -- Which part finds the fault that is told, by the tests that pass before it -------------------------------------------------------------------------
 
-module _ (g : Geometry) (w : List ℕ) (f : Fault) (told : fault g w ≡ FaultAt f) where
+module _ (g : Geometry) (w : List ℕ) (f : Fault) (told : fault g w ≡ Err f) where
   pub found_in_directory : directory_right g w ≡ false → no_place Directory ≡ f
   unfolding fault first_fault
   found_in_directory d = let one = rw d at told in cc
@@ -112,20 +111,20 @@ module _ (g : Geometry) (w : List ℕ) (f : Fault) (told : fault g w ≡ FaultAt
   found_in_head d h = let one = rw (d, h) at told in cc
 
   module _ (d : directory_right g w ≡ true) (h : head_right g w ≡ true) where
-    from_pages : first_fault (form_faults g w ∷ writing_faults g w ∷ across_fault g w ∷ []) ≡ FaultAt f
+    from_pages : first_fault (form_faults g w ∷ writing_faults g w ∷ across_fault g w ∷ []) ≡ Err f
     unfolding fault first_fault
     from_pages = rw (d, h) at told
 
-    pub found_in_pages : pages_formed g w ≡ false → form_faults g w ≡ FaultAt f
+    pub found_in_pages : pages_formed g w ≡ false → form_faults g w ≡ Err f
     found_in_pages = fails_finds (form_faults g w) _ (pages_formed g w) f (formed_exactly g w) from_pages
 
-    from_writing : pages_formed g w ≡ true → first_fault (writing_faults g w ∷ across_fault g w ∷ []) ≡ FaultAt f
+    from_writing : pages_formed g w ≡ true → first_fault (writing_faults g w ∷ across_fault g w ∷ []) ≡ Err f
     from_writing = passes_on (form_faults g w) _ (pages_formed g w) f (formed_exactly g w) from_pages
 
-    pub found_in_writing : pages_formed g w ≡ true → levels_sound g w ≡ false → writing_faults g w ≡ FaultAt f
+    pub found_in_writing : pages_formed g w ≡ true → levels_sound g w ≡ false → writing_faults g w ≡ Err f
     found_in_writing p = fails_finds (writing_faults g w) _ (levels_sound g w) f (levels_exactly g w) (from_writing p)
 
-    pub found_across : pages_formed g w ≡ true → levels_sound g w ≡ true → across_fault g w ≡ FaultAt f
+    pub found_across : pages_formed g w ≡ true → levels_sound g w ≡ true → across_fault g w ≡ Err f
     found_across p l = only_found (across_fault g w) f (passes_on (writing_faults g w) _ (levels_sound g w) f (levels_exactly g w) (from_writing p) l)
 
 -- Tests that pass, and then one that fails: it is the first.
@@ -197,7 +196,7 @@ module _ (g : Geometry) (w : List ℕ) where
       chosen false s false t = omega (arith, ltb-false m n s, ltb-false n m t)
 
 -- The fault that is told has the number of the test that is the first to fail.
-pub told_first : (g : Geometry) (w : List ℕ) (f : Fault) → fault g w ≡ FaultAt f → FirstFails g w (number_of f.part)
+pub told_first : (g : Geometry) (w : List ℕ) (f : Fault) → fault g w ≡ Err f → FirstFails g w (number_of f.part)
 unfolding head_fault
 told_first g w f told = by (directory_right g w) refl (head_right g w) refl (pages_formed g w) refl (levels_sound g w) refl (across_right g w) refl
   where
@@ -215,7 +214,7 @@ told_first g w f told = by (directory_right g w) refl (head_right g w) refl (pag
         absurd (omega arith)
 
 -- And where no test fails, nothing is told.
-pub sound_passes : (g : Geometry) (w : List ℕ) → fault g w ≡ Sound → (n : ℕ) → number_of Directory ≤ n → n ≤ number_of Kinds → passes g w n ≡ true
+pub sound_passes : (g : Geometry) (w : List ℕ) → fault g w ≡ Ok tt → (n : ℕ) → number_of Directory ≤ n → n ≤ number_of Kinds → passes g w n ≡ true
 unfolding passes tests_in_order all
 sound_passes g w none n l u =
     let f = fault_sound g w none in
@@ -224,11 +223,11 @@ sound_passes g w none n l u =
     let a = (across_exactly g w).0 (sound_across g w f.alternates f.counted) in
     front_passes (tests_in_order g w) [] (rw (f.directory, f.head, p, s, a) refl) (n - 10) (omega arith)
 
-pub passes_sound : (g : Geometry) (w : List ℕ) → ((n : ℕ) → number_of Directory ≤ n → n ≤ number_of Kinds → passes g w n ≡ true) → fault g w ≡ Sound
+pub passes_sound : (g : Geometry) (w : List ℕ) → ((n : ℕ) → number_of Directory ≤ n → n ≤ number_of Kinds → passes g w n ≡ true) → fault g w ≡ Ok tt
 passes_sound g w pass = by (fault g w) refl
   where
-    by : (j : Judged) → fault g w ≡ j → j ≡ Sound
-    by Sound told = refl
-    by (FaultAt f) told =
+    by : (j : Judged) → fault g w ≡ j → j ≡ Ok tt
+    by (Ok tt) told = refl
+    by (Err f) told =
         let first = told_first g w f told in
         absurd (false≢true (sym first.fails ∙ pass (number_of f.part) first.least first.most))

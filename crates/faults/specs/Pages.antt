@@ -1,7 +1,7 @@
 -- 12: the first page that is not formed, and the slot with which it breaks page form. Assumes nothing.
 use Prim.Native.Nat.{ℕ, zero, suc, ◌+◌, ◌-◌, ◌*◌, ◌≤◌, ◌<◌, min}
 use Rattle.std.proofs.Common.{arith, sym, subst, ◌∙◌}
-use Rattle.std.specs.Prelude.{◌≡◌, Bool, cond, List, length, get_or, take}
+use Rattle.std.specs.Prelude.{◌≡◌, Bool, cond, List, length, get_or, take, Err}
 use Rattle.std.proofs.Math.Path.{refl, ap}
 use Rattle.std.proofs.Math.Bool.{true, false}
 use Rattle.std.proofs.lemmas.Bool.{false≢true}
@@ -9,7 +9,6 @@ use borrow.Author.Tests.{leb-true}
 use Rattle.laws.specs.Tests.{and_left, and_right}
 use Rattle.laws.specs.Lists.{all, length_span, get_d_span}
 use Rattle.fault.specs.declared.Fault.{Fault}
-use Rattle.fault.specs.declared.Judged.TheVariants.{FaultAt}
 use Rattle.fault.specs.declared.Part.TheVariants.{Page}
 use Rattle.geometry.specs.declared.Geometry.{Geometry}
 use Rattle.geometry.specs.Geometry.{bottom}
@@ -125,7 +124,7 @@ record UnformedFound (g : Geometry) (w : List ℕ) (f : Fault) : Type 0 where
   first : FirstUnformed g w level page
   tells : page_fault g w level page ≡ f
 
-found : (g : Geometry) (w : List ℕ) (f : Fault) → form_faults g w ≡ FaultAt f → UnformedFound g w f
+found : (g : Geometry) (w : List ℕ) (f : Fault) → form_faults g w ≡ Err f → UnformedFound g w f
 unfolding form_faults form_fault
 found g w f e =
     let level = span_found (form_fault g w) 1 (bottom g) f e in
@@ -147,11 +146,11 @@ found g w f e =
       tells = own.1;
     }
 
-pub forms_part : (g : Geometry) (w : List ℕ) (f : Fault) → form_faults g w ≡ FaultAt f → f.part ≡ Page
+pub forms_part : (g : Geometry) (w : List ℕ) (f : Fault) → form_faults g w ≡ Err f → f.part ≡ Page
 unfolding page_fault
 forms_part g w f e = ap (λ (x : Fault). x.part) (sym (found g w f e).tells)
 
-pub forms_first : (g : Geometry) (w : List ℕ) (f : Fault) → form_faults g w ≡ FaultAt f → Unformed g w f
+pub forms_first : (g : Geometry) (w : List ℕ) (f : Fault) → form_faults g w ≡ Err f → Unformed g w f
 unfolding page_fault
 forms_first g w f e =
     let told = found g w f e in

@@ -1,13 +1,12 @@
 -- 13: what the faults of writing tell. Assumes nothing.
-use Rattle.std.specs.Prelude.{ℕ, ◌≤◌, ◌<◌, ◌≡◌, true, false, ◌⊎◌, List, length}
+use Rattle.std.specs.Prelude.{ℕ, ◌≤◌, ◌<◌, ◌≡◌, true, false, ◌⊎◌, List, length, Err, Ok}
 use Rattle.std.proofs.Math.Nat.{div-eq_of_lt}
 use Rattle.std.proofs.Common.{mod-eq_of_lt, arith, sym, ap, subst}
 use Rattle.std.proofs.Math.Path.{refl}
 use Rattle.std.proofs.Math.Logic.◌⊎◌.{inl, inr}
 use Rattle.laws.specs.Lists.{span}
 use Rattle.fault.specs.declared.Fault.{Fault}
-use Rattle.fault.specs.declared.Judged.{Judged}
-use Rattle.fault.specs.declared.Judged.TheVariants.{Sound, FaultAt}
+use Rattle.fault.specs.Judged.{Judged}
 use Rattle.fault.specs.declared.Part.TheVariants.{Writing}
 use Rattle.geometry.specs.declared.Geometry.{Geometry}
 use Rattle.geometry.specs.Geometry.{InRange, bottom}
@@ -29,14 +28,14 @@ data Unwritten (g : Geometry) (w : List ℕ) (f : Fault) : Type 0 where
   of_level_lem : head_sound g w ≡ true → (i : ℕ) → 1 ≤ i → i < g.levels → ((j : ℕ) → 1 ≤ j → j < i → level_sound g w j ≡ true) → level_sound g w i ≡ false →
       placed Writing g i (level_wrong g w i) ≡ f → Unwritten g w f
 
-found_first : (g : Geometry) (w : List ℕ) (f : Fault) → writing_faults g w ≡ FaultAt f → Unwritten g w f
+found_first : (g : Geometry) (w : List ℕ) (f : Fault) → writing_faults g w ≡ Err f → Unwritten g w f
 unfolding writing_faults writing_fault
 found_first g w f e = chosen (first_found own (span (writing_fault g w) 1 (bottom g)) f e)
   where
     own : Judged
     own = unless (head_sound g w) (placed Writing g 0 (head_leaves g w))
 
-    chosen : (own ≡ FaultAt f) ⊎ ((own ≡ Sound) × (first_fault (span (writing_fault g w) 1 (bottom g)) ≡ FaultAt f)) → Unwritten g w f
+    chosen : (own ≡ Err f) ⊎ ((own ≡ Ok tt) × (first_fault (span (writing_fault g w) 1 (bottom g)) ≡ Err f)) → Unwritten g w f
     chosen (inl q) =
         let told = unless_found (head_sound g w) (placed Writing g 0 (head_leaves g w)) f q in
         of_head_lem told.0 told.1
@@ -47,7 +46,7 @@ found_first g w f e = chosen (first_found own (span (writing_fault g w) 1 (botto
         of_level_lem (unless_sound (head_sound g w) _ s) i level.lower (omega (arith, level.lower, level.upper))
         (λ j l u. unless_sound (level_sound g w j) _ (level.before j l u)) told.0 told.1
 
-pub writings_part : (g : Geometry) (w : List ℕ) (f : Fault) → writing_faults g w ≡ FaultAt f → f.part ≡ Writing
+pub writings_part : (g : Geometry) (w : List ℕ) (f : Fault) → writing_faults g w ≡ Err f → f.part ≡ Writing
 writings_part g w f e = chosen (found_first g w f e)
   where
     chosen : Unwritten g w f → f.part ≡ Writing
@@ -78,7 +77,7 @@ module _ (g : Geometry) (w : List ℕ) (fit : InRange g) (whole : length w ≡ s
         breaks = level_breaks g w fit whole right i l u (λ p. formed i p l u) wrong;
       }))
 
-  pub writings_first : (f : Fault) → writing_faults g w ≡ FaultAt f → Miswritten g w f
+  pub writings_first : (f : Fault) → writing_faults g w ≡ Err f → Miswritten g w f
   writings_first f e = chosen (found_first g w f e)
     where
       chosen : Unwritten g w f → Miswritten g w f

@@ -20,7 +20,7 @@ use Rattle.rules.specs.Sound.{head_slots, ascending, page_right, first_right}
 use Rattle.geometry.specs.Directory.{pages_of}
 use Rattle.rules.specs.Good.{Good, Fits}
 use Rattle.rules.specs.Reading.{Reads}
-use Rattle.walk.specs.declared.Walked.TheVariants.{Found}
+use Rattle.walk.specs.Walked.{found}
 use Rattle.walk.specs.Step.{step_of, head_step, page_step}
 use Rattle.walk.specs.Walk.{walk_on, walked}
 use Rattle.walk.specs.Trail.{page_line, lines_on, trail, line_pages, pages_below}
@@ -63,7 +63,7 @@ module _ (g : Geometry) (s : State) (w : List ℕ) (fit : InRange g) (good : Goo
   -- From a run of level i on, with the levels of t below it: what is found, and the pages read.
   abbrev WalksOn : Tree → ℕ → List Slot → Level → ℕ → Type 0
   WalksOn t i run es n =
-      (walk_on g w p n i (step_of (tell p run)) ≡ Found (held p (es ∷ t)) (deciding p i (es ∷ t))) ×
+      (walk_on g w p n i (step_of (tell p run)) ≡ found (held p (es ∷ t)) (deciding p i (es ∷ t))) ×
       (line_pages (lines_on g w p n i (step_of (tell p run))) ≡ (walk p i run (laid t)).read)
 
   walk_words : (t : Tree) (i : ℕ) (run : List Slot) (es : Level) → suc i + length t ≡ g.levels → drop (suc i) slots ≡ laid t → all ascending t ≡ true →
@@ -77,7 +77,7 @@ module _ (g : Geometry) (s : State) (w : List ℕ) (fit : InRange g) (good : Goo
           (rw (told, held_met p es [] normal f, deciding_met p i es [] normal f), rw (walk_met p i run [] normal told))
       by_entry absent f =
           let told = tells_nothing p run es f e in
-          (rw (told, held_absent p es [] f, deciding_absent p i es [] f) (ap (Found false) (omega (arith, n))), rw (walk_ends p i run told))
+          (rw (told, held_absent p es [] f, deciding_absent p i es [] f) (ap (found false) (omega (arith, n))), rw (walk_ends p i run told))
   walk_words (fs ∷ t) i run es n d a e =
       by_entry (find p es) refl
       (walk_words t (suc i) (page_of row (page_below p fs t)) fs (omega (arith, n)) rest_is lower (page_led p fs t (all_first ascending fs t a) lower))
@@ -133,12 +133,12 @@ module _ (g : Geometry) (s : State) (w : List ℕ) (fit : InRange g) (good : Goo
   depth : bottom g ≡ length (drop 1 s.tree)
   depth = omega (arith, good.levels, length-drop 1 s.tree)
 
-  pub walked_finds : walked g w p ≡ Found (held p s.tree) (decider p s.tree)
+  pub walked_finds : walked g w p ≡ found (held p s.tree) (decider p s.tree)
   unfolding walked head_step decider
   walked_finds =
       let whole : s.tree ≡ level 0 s.tree ∷ drop 1 s.tree = drop-cons s.tree 0 [] some_level in
       rw (directory_right_lem g s w fit good fits reads, head_right_lem g s w fit good fits reads, depth)
-      ((walk_tree some_level).0 ∙ ap (λ (t : Tree). Found (held p t) (deciding p 0 t)) (sym whole))
+      ((walk_tree some_level).0 ∙ ap (λ (t : Tree). found (held p t) (deciding p 0 t)) (sym whole))
 
   -- The pages that its trail reads below the head are those of the walk on slots.
   pub walked_reads : pages_below (trail g w p) ≡ (ask p (slots_of s.tree)).read

@@ -2,65 +2,57 @@
 // also tells how far a pair reaches in it.
 #![tactic(auto)]
 
-ghost use Rattle.std.specs.Prelude.{◌+◌, ◌<◌, ◌≤◌, min, ◌≡◌, cond, length};
+ghost use Rattle.std.specs.Prelude.{◌+◌, ◌<◌, ◌≤◌, ◌≡◌, cond, length, Some, None};
 ghost use Rattle.geometry.specs.Geometry.{room};
 ghost use Rattle.geometry.specs.Places.{words_in_slot, words_in_page};
-ghost use Rattle.geometry.specs.Lent.{Lent};
 ghost use Rattle.slot.specs.Slot.{slot_at};
 ghost use Rattle.rules.specs.Sound.{directory_right, pages_right};
 ghost use Rattle.form.specs.Passes.{count_fits, least_fence, page_at, PageTold, head_at, HeadFits, HeadTold};
 
 use geometry::{
-    FIRST_SLOT, Geometry, HEAD_COUNT, HEAD_START, LIVE, MODE, OPEN_MODE, PAGE_COUNTS, PAGE_SLOTS,
-    PAGE_WORDS, Plan, at_level, level_place,
+    FIRST_SLOT, HEAD_COUNT, HEAD_START, LIVE, MODE, OPEN_MODE, PAGE_COUNTS, PAGE_SLOTS, PAGE_WORDS,
+    Store, at_level,
 };
 use laws::{both, either};
-use page::{is_fence, scan_head, scan_page};
+use page::{Slots, is_fence, scan_head, scan_page};
 use slot::{Pair, Pid, least_pair, read_slot, same_pair};
 
-// What a pass over a page tells of it: whether its count, slot order and tags are right, the slot to tell where they are not, and how many of
-// its slots are at most the pair asked.
+// What a pass over a page tells of it: the slot to tell where its count, slot order or tags are not right, and how many of its slots are at
+// most the pair asked.
 #[derive(Clone, Copy)]
 pub struct PageRead {
-    pub formed: bool,
-    pub slot: u32,
+    pub flaw: Option<u32>,
     pub reach: u32,
 }
 
-// What a pass over the head tells of it: whether it is right, the slot to tell where it is not, its index entries, and how many of its slots
-// are at most the pair asked.
+// What a pass over the head tells of it: the slot to tell where it is not right, its index entries, and how many of its slots are at most the
+// pair asked.
 #[derive(Clone, Copy)]
 pub struct HeadRead {
-    pub formed: bool,
-    pub slot: u32,
+    pub flaw: Option<u32>,
     pub entries: u32,
     pub reach: u32,
 }
 
 // Whether the directory is right: live ≤ M; page counts are 1..Pg, or 0 without the level; the mode's word is an open store's.
-pub fn directory_right(store: &[u32], g: Geometry, plan: Plan) -> bool
-    requires { Lent g plan store.now }
-    ensures { result ≡ directory_right g store.now }
+pub fn directory_right(store: &Store) -> bool
+    ensures { result ≡ directory_right store.now.geometry store.now.words.now }
 {
-    let capacities = plan.capacities;
-    let most = at_level(capacities, g.levels - 1);
-    let first = pages_right(store, g, plan, 1);
-    let second = pages_right(store, g, plan, 2);
-    let third = pages_right(store, g, plan, 3);
-    let pages = both(first, both(second, third));
-    both(both(store[LIVE] <= most, pages), store[MODE] == OPEN_MODE)
+    let words = store.words;
+    let most = at_level(store.plan.capacities, store.geometry.levels - 1);
+    let below = both(pages_right(store, 2), pages_right(store, 3));
+    let pages = both(pages_right(store, 1), below);
+    both(both(words[LIVE] <= most, pages), words[MODE] == OPEN_MODE)
 }
 
 // Whether the directory's page count of a level is 1..Pg, or 0 without the level.
-fn pages_right(store: &[u32], g: Geometry, plan: Plan, level: u32) -> bool
-    requires lent { Lent g plan store.now }
-    requires level_bound { level ≤ 3 }
-    ensures { result ≡ pages_right g store.now level }
+fn pages_right(store: &Store, level: u32) -> bool
+    requires { level ≤ 3 }
+    ensures { result ≡ pages_right store.now.geometry store.now.words.now level }
 {
-    let pages = store[PAGE_COUNTS + level as usize];
-    if level < g.levels {
-        let rooms = plan.rooms;
-        both(1 <= pages, pages <= at_level(rooms, level))
+    let pages = store.words[PAGE_COUNTS + level as usize];
+    if level < store.geometry.levels {
+        both(1 <= pages, pages <= at_level(store.plan.rooms, level))
     } else {
         pages == 0
     }
@@ -75,34 +67,35 @@ pub struct PageAt {
 }
 
 // A page of a lower level.
-pub fn page_at(store: &[u32], g: Geometry, plan: Plan, level: u32, page: Pid) -> PageAt
-    requires lent { Lent g plan store.now }
-    requires le_level { (1 ≤ level) × (level < g.levels) × (page.0 < room g level) }
-    ensures exact { result ≡ page_at g store.now level page.0 }
-    ensures inside { result.place + words_in_page ≤ length store.now }
+pub fn page_at(store: &Store, level: u32, page: Pid) -> PageAt
+    requires { (1 ≤ level) × (level < store.now.geometry.levels) × (page.0 < room store.now.geometry level) }
+    ensures exact { result ≡ page_at store.now.geometry store.now.words.now level page.0 }
+    ensures inside { result.place + words_in_page ≤ length store.now.words.now }
 {
-    let own = level_place(store, g, plan, level);
-    let below = level_place(store, g, plan, level + 1);
+    let own = store.level_place(level);
+    let below = store.level_place(level + 1);
     PageAt {
         place: own.start as usize + PAGE_WORDS * page.0 as usize,
         below: below.pages,
-        alone: both(level + 1 == g.levels, own.pages == 1),
+        alone: both(level + 1 == store.geometry.levels, own.pages == 1),
     }
 }
 
 // A pass over a page for a pair.
-pub fn page_scan(store: &[u32], at: PageAt, asked: Pair) -> PageRead
-    requires { at.place + words_in_page ≤ length store.now }
-    ensures { PageTold store.now at asked result }
+pub fn page_scan(words: &[u32], at: PageAt, asked: Pair) -> PageRead
+    requires { at.place + words_in_page ≤ length words.now }
+    ensures { PageTold words.now at asked result }
 {
-    let place = at.place;
-    let count = store[place];
-    let slots = lesser(count, PAGE_SLOTS) as usize;
-    let scan = scan_page(store, place + FIRST_SLOT, slots, asked, at.below);
+    let count = words[at.place];
+    let slots = Slots {
+        words,
+        place: at.place + FIRST_SLOT,
+        count: count.min(PAGE_SLOTS) as usize,
+    };
+    let scan = scan_page(&slots, asked, at.below);
     let fits = count_right(count, at.alone);
     PageRead {
-        formed: both(fits, scan.formed),
-        slot: slot_if(fits, scan.breaking),
+        flaw: first_flaw(both(fits, scan.formed), fits, scan.breaking),
         reach: scan.reach,
     }
 }
@@ -123,56 +116,52 @@ pub struct HeadAt {
 }
 
 // The head of a store.
-pub fn head_at(store: &[u32], g: Geometry, plan: Plan) -> HeadAt
-    requires { Lent g plan store.now }
-    ensures { result ≡ head_at g store.now }
+pub fn head_at(store: &Store) -> HeadAt
+    ensures { result ≡ head_at store.now.geometry store.now.words.now }
 {
-    let below = level_place(store, g, plan, 1);
+    let below = store.level_place(1);
     HeadAt {
-        room: plan.head_room,
+        room: store.plan.head_room,
         below: below.pages,
-        head: g.head,
+        head: store.geometry.head,
     }
 }
 
 // A pass over the head for a pair.
-pub fn head_scan(store: &[u32], at: HeadAt, asked: Pair) -> HeadRead
-    requires { HeadFits store.now at }
-    ensures { HeadTold store.now at asked result }
+pub fn head_scan(words: &[u32], at: HeadAt, asked: Pair) -> HeadRead
+    requires { HeadFits words.now at }
+    ensures { HeadTold words.now at asked result }
 {
-    let count = store[HEAD_COUNT];
-    let slots = lesser(count, at.room);
-    let scan = scan_head(store, HEAD_START, slots as usize, asked, at.below, at.head);
-    let least = both(1 <= slots, is_least_fence(store, HEAD_START));
+    let count = words[HEAD_COUNT];
+    let read = count.min(at.room);
+    let slots = Slots {
+        words,
+        place: HEAD_START,
+        count: read as usize,
+    };
+    let scan = scan_head(&slots, asked, at.below, at.head);
+    let least = both(1 <= read, is_least_fence(words, HEAD_START));
     let begun = both(count <= at.room, least);
+    let right = both(both(begun, scan.formed), scan.fences == at.below);
     HeadRead {
-        formed: both(both(begun, scan.formed), scan.fences == at.below),
-        slot: slot_if(both(begun, scan.breaking < slots), scan.breaking),
+        flaw: first_flaw(right, both(begun, scan.breaking < read), scan.breaking),
         entries: scan.entries,
         reach: scan.reach,
     }
 }
 
-// A slot to tell, or slot 0.
-fn slot_if(told: bool, slot: u32) -> u32
-    ensures { result ≡ cond told slot 0 }
+// The slot to tell of a run that is not right: the one told, or slot 0.
+fn first_flaw(right: bool, told: bool, slot: u32) -> Option<u32>
+    ensures { result ≡ cond right None (Some (cond told slot 0)) }
 {
-    if told { slot } else { 0 }
+    (!right).then_some(if told { slot } else { 0 })
 }
 
 // Whether the slot at a place is a fence with the least pair.
-fn is_least_fence(store: &[u32], place: usize) -> bool
-    requires { place + words_in_slot ≤ length store.now }
-    ensures { result ≡ least_fence (slot_at store.now place) }
+fn is_least_fence(words: &[u32], place: usize) -> bool
+    requires { place + words_in_slot ≤ length words.now }
+    ensures { result ≡ least_fence (slot_at words.now place) }
 {
-    let slot = read_slot(store, place);
-    let kind = slot.kind;
-    let pair = slot.pair;
-    both(is_fence(kind), same_pair(least_pair(), pair))
-}
-
-fn lesser(a: u32, b: u32) -> u32
-    ensures { result ≡ min a b }
-{
-    if a < b { a } else { b }
+    let slot = read_slot(words, place);
+    both(is_fence(slot.kind), same_pair(least_pair(), slot.pair))
 }

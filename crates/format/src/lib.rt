@@ -11,7 +11,7 @@ ghost use Rattle.rules.specs.Store.{page_count, directory, empty_store};
 ghost use Rattle.format.specs.Empty.{first_fence, empty_row, empty_slots};
 ghost use Rattle.format.specs.Formatting.{head_written, page_front};
 
-use geometry::{Geometry, Plan};
+use geometry::{Geometry, Plan, Store};
 use slot::{Kind, Pid, Slot};
 
 // Makes the store of the empty set, whatever its words: no live pairs, one page in each level, and the fence to page 0 above the bottom.
@@ -20,11 +20,14 @@ pub fn format_store(store: &mut [u32], g: Geometry, plan: Plan)
     ensures { store.new ≡ empty_store g }
 {
     write_head(store, g);
-    let mut level = 1;
-    while level < g.levels {
-        let own = geometry::level_place(store, g, plan, level);
+    for level in 1..g.levels {
+        let stored = Store {
+            words: store,
+            geometry: g,
+            plan,
+        };
+        let own = stored.level_place(level);
         write_first_page(store, own.start as usize, level + 1 == g.levels);
-        level += 1;
     }
 }
 

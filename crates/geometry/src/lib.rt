@@ -3,7 +3,7 @@
 
 ghost use Rattle.std.specs.Prelude.{◌≤◌, max, ◌≡◌, length, get_or};
 ghost use Rattle.geometry.specs.Geometry.{InRange, in_range, between, within, room_of, capacities, rooms};
-ghost use Rattle.geometry.specs.Places.{directory_words, plan_of};
+ghost use Rattle.geometry.specs.Places.{directory_words, plan_of, store_words};
 ghost use Rattle.geometry.specs.Bounds.{FourSmall, PlanSmall};
 ghost use Rattle.geometry.specs.Directory.{geometry_of, level_place};
 ghost use Rattle.geometry.specs.Lent.{Lent};
@@ -89,25 +89,49 @@ pub fn stored_geometry(store: &[u32]) -> Geometry
     }
 }
 
-// Where a level stands. Below the bottom there is a level of no pages at the store's end.
-pub fn level_place(store: &[u32], g: Geometry, plan: Plan, level: u32) -> LevelPlace
-    requires lent { Lent g plan store.now }
-    requires le_level { (1 ≤ level) × (level ≤ 4) }
-    ensures { result ≡ level_place g store.now level }
-{
-    if g.levels <= level {
-        return LevelPlace {
-            start: plan.store_words,
-            room: 0,
-            pages: 0,
-        };
+// A store to read: its words with the geometry that they are laid out by. Its length is exact.
+#[derive(Clone, Copy)]
+pub struct Store<'a> {
+    pub words: &'a [u32],
+    pub geometry: Geometry,
+    pub plan: Plan,
+    ghost lent: { Lent geometry plan words.now },
+}
+
+impl<'a> Store<'a> {
+    // The words of a store whose geometry is known and in range.
+    pub fn new(words: &'a [u32], geometry: Geometry) -> Store<'a>
+        requires in_range { InRange geometry }
+        requires exact { length words.now ≡ store_words geometry }
+        ensures same { result.words.now ≡ words.now }
+        ensures laid_out { result.geometry ≡ geometry }
+        ensures planned { result.plan ≡ plan_of geometry }
+    {
+        let plan = plan_for(geometry);
+        Store {
+            words,
+            geometry,
+            plan,
+        }
     }
-    let starts = plan.starts;
-    let rooms = plan.rooms;
-    LevelPlace {
-        start: at_level(starts, level),
-        room: at_level(rooms, level),
-        pages: store[PAGE_COUNTS + level as usize],
+
+    // Where a level stands. Below the bottom there is a level of no pages at the store's end.
+    pub fn level_place(&self, level: u32) -> LevelPlace
+        requires { (1 ≤ level) × (level ≤ 4) }
+        ensures { result ≡ level_place self.now.geometry self.now.words.now level }
+    {
+        if self.geometry.levels <= level {
+            return LevelPlace {
+                start: self.plan.store_words,
+                room: 0,
+                pages: 0,
+            };
+        }
+        LevelPlace {
+            start: at_level(self.plan.starts, level),
+            room: at_level(self.plan.rooms, level),
+            pages: self.words[PAGE_COUNTS + level as usize],
+        }
     }
 }
 
@@ -148,7 +172,7 @@ pub fn plan_for(g: Geometry) -> Plan
         starts: [9, first, second, third],
         head_room,
         store_words: third + 64 * rooms[3],
-        work_words: 64 * greater(rooms[1], greater(rooms[2], rooms[3])),
+        work_words: 64 * rooms[1].max(rooms[2].max(rooms[3])),
     }
 }
 
@@ -200,25 +224,15 @@ fn within(g: Geometry, level: u32, n: u32) -> u32
     if level < g.levels { n } else { 0 }
 }
 
-fn greater(a: u32, b: u32) -> u32
-    ensures { result ≡ max a b }
-{
-    if a < b { b } else { a }
-}
-
 // The number of a level among four. The numbers are told apart by tests, so that they need no place in memory.
 pub fn at_level(four: [u32; 4], level: u32) -> u32
     requires { level ≤ 3 }
     ensures { result ≡ get_or four level 0 }
 {
-    if level == 0 {
-        return four[0];
+    match level {
+        0 => four[0],
+        1 => four[1],
+        2 => four[2],
+        _ => four[3],
     }
-    if level == 1 {
-        return four[1];
-    }
-    if level == 2 {
-        return four[2];
-    }
-    four[3]
 }

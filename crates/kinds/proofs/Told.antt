@@ -1,33 +1,29 @@
 -- What is told of four runs: the place of the first entry that is wrong over the runs below its own, or nothing. Of a store's runs it is what
 -- the rules find. Assumes nothing.
-use Prim.Native.Nat.{ℕ, zero, suc, ◌+◌, ◌-◌, ◌/◌, ◌%◌, ◌≤◌, ◌<◌}
-use Rattle.std.proofs.Common.{add-one, ◌∙◌}
-use native.Mathlib.Omega.{arith}
-use Rattle.std.specs.Prelude.{◌≡◌, Bool, true, get_or, eqb}
-use Rattle.std.proofs.Math.Path.{refl, ap, ap₂, sym, fun_ext}
-use mathlib.Core.List.{List, [], ◌∷◌, ◌++◌}
-use Rattle.std.proofs.Math.ListN.{length}
+use Prim.Native.Nat.{ℕ, ◌+◌}
+use Rattle.std.proofs.Common.{◌∙◌}
+use Rattle.std.specs.Prelude.{◌≡◌, get_or, eqb}
+use Rattle.std.proofs.Math.Path.{refl, ap, ap₂, sym}
+use mathlib.Core.List.{List, [], ◌∷◌}
 use Rattle.laws.specs.Lists.{span, concat, all}
 use Rattle.fault.specs.declared.Fault.{Fault}
-use Rattle.fault.specs.declared.Judged.{Judged}
-use Rattle.fault.specs.declared.Judged.TheVariants.{Sound, FaultAt}
+use Rattle.fault.specs.Judged.{Judged}
+use Rattle.std.specs.Prelude.{Err, Ok}
 use Rattle.fault.specs.declared.Part.TheVariants.{Kinds}
-use Rattle.fault.specs.Numbers.{fault_in, no_place}
+use Rattle.fault.specs.Numbers.{no_place}
 use Rattle.geometry.specs.declared.Geometry.{Geometry}
 use Rattle.geometry.specs.Geometry.{InRange}
 use Rattle.geometry.specs.Places.{live_word}
 use Rattle.rules.specs.Tree.{Entry, Level, Tree}
 use Rattle.rules.specs.Finding.{find, held}
 use Rattle.rules.specs.Sound.{right_over, entries_of, tree_of}
-use Rattle.rules.specs.Faults.{unless, first_fault, page_size, entry_places, wrong_entry, kinds_faults, across_fault}
-use Rattle.rules.specs.Found.{only_one, none_first, fault_first, none_joined, fault_joined}
-use Rattle.entries.specs.declared.Run.{Run}
-use Rattle.entries.specs.declared.Runs.{Runs}
+use Rattle.rules.specs.Faults.{unless, first_fault, page_size, entry_places, kinds_faults, across_fault}
+use Rattle.rules.specs.Found.{only_one, none_joined, fault_joined}
+use Rattle.entries.specs.Four.{Runs}
 use Rattle.entries.specs.Run.{entries_in}
 use Rattle.entries.specs.Levels.{head_run, level_run, runs_of, tree_in, by_levels}
-use Rattle.entries.specs.Placed.{places_in, spot_placed, spot_inside, page_of_number, slot_of_number, head_places, level_places}
-use Rattle.entries.specs.Spot.{page_at, slot_number, upcoming, Standing}
-use Rattle.kinds.specs.Standing.{stands_over, some_wrong, wrong_agree}
+use Rattle.entries.specs.Placed.{head_places, level_places}
+use Rattle.kinds.specs.Standing.{stands_over}
 use Rattle.kinds.specs.declared.KindCounts.{KindCounts}
 use Rattle.kinds.specs.KindCounts.{tree_counts}
 use Rattle.kinds.specs.Below.{below_of, live_told}
@@ -59,17 +55,17 @@ module _ (g : Geometry) (w : List ℕ) where
   two_found : (a b : Level) → first_fault (kinds_faults g w 0 (a ∷ b ∷ [] ∷ [] ∷ [])) ≡ first_fault (kinds_faults g w 0 (a ∷ b ∷ []))
   unfolding first_fault kinds_faults level_fault stands_over all held find
   two_found a b =
-      ap₂ (λ (x y : Judged). first_fault (x ∷ y ∷ Sound ∷ Sound ∷ [])) (agree_at 0 a (b ∷ [] ∷ [] ∷ []) (b ∷ []) (λ e. refl))
+      ap₂ (λ (x y : Judged). first_fault (x ∷ y ∷ (Ok tt) ∷ (Ok tt) ∷ [])) (agree_at 0 a (b ∷ [] ∷ [] ∷ []) (b ∷ []) (λ e. refl))
       (agree_at 1 b ([] ∷ [] ∷ []) [] (λ e. refl)) ∙
-      sound_behind (at_level 0 a (b ∷ []) ∷ at_level 1 b [] ∷ Sound ∷ []) ∙
+      sound_behind (at_level 0 a (b ∷ []) ∷ at_level 1 b [] ∷ (Ok tt) ∷ []) ∙
       sound_behind (at_level 0 a (b ∷ []) ∷ at_level 1 b [] ∷ [])
 
   three_found : (a b c : Level) → first_fault (kinds_faults g w 0 (a ∷ b ∷ c ∷ [] ∷ [])) ≡ first_fault (kinds_faults g w 0 (a ∷ b ∷ c ∷ []))
   unfolding first_fault kinds_faults level_fault stands_over all held find
   three_found a b c =
-      ap₂ (λ (x y : Judged). first_fault (x ∷ y ∷ at_level 2 c ([] ∷ []) ∷ Sound ∷ [])) (agree_at 0 a (b ∷ c ∷ [] ∷ []) (b ∷ c ∷ []) (λ e. refl))
+      ap₂ (λ (x y : Judged). first_fault (x ∷ y ∷ at_level 2 c ([] ∷ []) ∷ (Ok tt) ∷ [])) (agree_at 0 a (b ∷ c ∷ [] ∷ []) (b ∷ c ∷ []) (λ e. refl))
       (agree_at 1 b (c ∷ [] ∷ []) (c ∷ []) (λ e. refl)) ∙
-      ap (λ (z : Judged). first_fault (at_level 0 a (b ∷ c ∷ []) ∷ at_level 1 b (c ∷ []) ∷ z ∷ Sound ∷ [])) (agree_at 2 c ([] ∷ []) [] (λ e. refl)) ∙
+      ap (λ (z : Judged). first_fault (at_level 0 a (b ∷ c ∷ []) ∷ at_level 1 b (c ∷ []) ∷ z ∷ (Ok tt) ∷ [])) (agree_at 2 c ([] ∷ []) [] (λ e. refl)) ∙
       sound_behind (at_level 0 a (b ∷ c ∷ []) ∷ at_level 1 b (c ∷ []) ∷ at_level 2 c [] ∷ [])
 
   runs_told : InRange g → first_fault (faults_from w 0 (runs_of g w) 4) ≡ first_fault (kinds_faults g w 0 (tree_of g w))
@@ -81,11 +77,11 @@ module _ (g : Geometry) (w : List ℕ) (fit : InRange g) (rs : Runs) (read : rs 
   kinds_told : j ≡ first_fault (kinds_faults g w 0 (tree_of g w))
   kinds_told = told ∙ rw read (runs_told g w fit)
 
-  pub across_wrong : (f : Fault) → j ≡ FaultAt f → FaultAt f ≡ across_fault g w
+  pub across_wrong : (f : Fault) → j ≡ Err f → Err f ≡ across_fault g w
   unfolding across_fault
   across_wrong f e = sym (fault_joined _ (kinds_faults g w 0 (tree_of g w)) f (sym kinds_told ∙ e))
 
-  pub across_live : (n : KindCounts) → j ≡ Sound → n ≡ tree_counts (tree_in w rs) →
+  pub across_live : (n : KindCounts) → j ≡ Ok tt → n ≡ tree_counts (tree_in w rs) →
       unless (eqb (get_or w live_word 0 + n.filters) n.normal) (no_place Kinds) ≡ across_fault g w
   unfolding across_fault
   across_live n e counted =

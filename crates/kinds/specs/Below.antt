@@ -10,7 +10,7 @@ use Rattle.rules.specs.Tree.{Level, Tree}
 use Rattle.rules.specs.Finding.{find, held}
 use Rattle.rules.specs.Sound.{entries_of, tree_of, count_kind, live_right, ascending}
 use Rattle.entries.specs.declared.Run.{Run}
-use Rattle.entries.specs.declared.Runs.{Runs}
+use Rattle.entries.specs.Four.{Runs}
 use Rattle.entries.specs.Run.{entries_in}
 use Rattle.entries.specs.Levels.{AllInside, runs_of, tree_in, by_levels}
 use Rattle.entries.specs.Ascending.{levels_ascend, chain_first}

@@ -7,8 +7,8 @@ use Rattle.slot.specs.Pair.{same, least}
 use Rattle.rules.specs.Tree.{Level, Tree}
 use Rattle.rules.specs.Faults.{wrong_entry}
 use Rattle.entries.specs.declared.Run.{Run}
-use Rattle.entries.specs.declared.Runs.{Runs}
-use Rattle.entries.specs.declared.Spots.{Spots}
+use Rattle.entries.specs.Four.{Runs}
+use Rattle.entries.specs.Four.{Spots}
 use Rattle.entries.specs.declared.Entry.{Entry}
 use Rattle.entries.specs.Run.{entry}
 use Rattle.entries.specs.Skip.{skip, skip_all}

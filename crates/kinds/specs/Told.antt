@@ -1,36 +1,30 @@
 -- What is told of four runs: the place of the first entry that is wrong over the runs below its own, or nothing. Of a store's runs it is what
 -- the rules find. Assumes nothing.
 use Prim.Native.Nat.{ℕ, zero, suc, ◌+◌, ◌-◌, ◌/◌, ◌%◌, ◌≤◌, ◌<◌}
-use Rattle.std.proofs.Common.{add-one, ◌∙◌}
+use Rattle.std.proofs.Common.{add-one}
 use native.Mathlib.Omega.{arith}
-use Rattle.std.specs.Prelude.{◌≡◌, Bool, true, get_or, eqb}
-use Rattle.std.proofs.Math.Path.{refl, ap, ap₂, sym, fun_ext}
+use Rattle.std.specs.Prelude.{◌≡◌, Bool, true, get_or}
+use Rattle.std.proofs.Math.Path.{refl, ap, sym, fun_ext}
 use mathlib.Core.List.{List, [], ◌∷◌, ◌++◌}
 use Rattle.std.proofs.Math.ListN.{length}
-use Rattle.laws.specs.Lists.{span, concat, all}
+use Rattle.laws.specs.Lists.{all}
 use Rattle.fault.specs.declared.Fault.{Fault}
-use Rattle.fault.specs.declared.Judged.{Judged}
-use Rattle.fault.specs.declared.Judged.TheVariants.{Sound, FaultAt}
+use Rattle.fault.specs.Judged.{Judged}
+use Rattle.std.specs.Prelude.{Err, Ok}
 use Rattle.fault.specs.declared.Part.TheVariants.{Kinds}
-use Rattle.fault.specs.Numbers.{fault_in, no_place}
-use Rattle.geometry.specs.declared.Geometry.{Geometry}
-use Rattle.geometry.specs.Geometry.{InRange}
-use Rattle.geometry.specs.Places.{live_word}
+use Rattle.fault.specs.Numbers.{fault_in}
 use Rattle.rules.specs.Tree.{Entry, Level, Tree}
-use Rattle.rules.specs.Finding.{find, held}
-use Rattle.rules.specs.Sound.{right_over, entries_of, tree_of}
-use Rattle.rules.specs.Faults.{unless, first_fault, page_size, entry_places, wrong_entry, kinds_faults, across_fault}
-use Rattle.rules.specs.Found.{only_one, none_first, fault_first, none_joined, fault_joined}
+use Rattle.rules.specs.Sound.{right_over}
+use Rattle.rules.specs.Faults.{unless, first_fault, wrong_entry}
+use Rattle.rules.specs.Found.{none_first, fault_first}
 use Rattle.entries.specs.declared.Run.{Run}
-use Rattle.entries.specs.declared.Runs.{Runs}
+use Rattle.entries.specs.Four.{Runs}
 use Rattle.entries.specs.Run.{entries_in}
-use Rattle.entries.specs.Levels.{head_run, level_run, runs_of, tree_in, by_levels}
-use Rattle.entries.specs.Placed.{places_in, spot_placed, spot_inside, page_of_number, slot_of_number, head_places, level_places}
+use Rattle.entries.specs.Levels.{tree_in}
+use Rattle.entries.specs.Placed.{places_in, spot_placed, spot_inside, page_of_number, slot_of_number}
 use Rattle.entries.specs.Spot.{page_at, slot_number, upcoming, Standing}
 use Rattle.kinds.specs.Standing.{stands_over, some_wrong, wrong_agree}
-use Rattle.kinds.specs.declared.KindCounts.{KindCounts}
-use Rattle.kinds.specs.KindCounts.{tree_counts}
-use Rattle.kinds.specs.Below.{below_of, live_told}
+use Rattle.kinds.specs.Below.{below_of}
 
 -- The fault of the wrong entry at a spot of a level.
 abbrev pub wrong_at : ℕ → ℕ → Fault
@@ -55,12 +49,12 @@ faults_from w level rs (suc n) = top_fault w level rs ∷ faults_from w (suc lev
 
 -- A run that stands right, and one with a wrong entry at a spot.
 module _ (w : List ℕ) (level : ℕ) (run : Run) (t : Tree) where
-  pub right_told : stands_over (entries_in w run) t ≡ true → Sound ≡ run_fault w level run t
+  pub right_told : stands_over (entries_in w run) t ≡ true → (Ok tt) ≡ run_fault w level run t
   unfolding run_fault level_fault
   right_told e = rw e
 
   pub wrong_told : (spot : ℕ) (e : Entry) (es : Level) → Standing w run spot → page_at spot < run.pages → e ∷ es ≡ upcoming w run spot →
-      length (upcoming w run spot) + wrong_entry (entries_in w run) t ≡ length (entries_in w run) → FaultAt (wrong_at level spot) ≡ run_fault w level run t
+      length (upcoming w run spot) + wrong_entry (entries_in w run) t ≡ length (entries_in w run) → Err (wrong_at level spot) ≡ run_fault w level run t
   unfolding run_fault level_fault
   wrong_told spot e es stands h here far =
       let wrong = some_wrong (entries_in w run) t (omega (arith, far, ap length here)) in
@@ -71,19 +65,19 @@ module _ (w : List ℕ) (level : ℕ) (run : Run) (t : Tree) where
 
 -- Runs from the top on: one that stands right, one that does not, and past the last.
 module _ (w : List ℕ) (level n : ℕ) (rs : Runs) where
-  pub next_told : level < n → top_fault w level rs ≡ Sound → first_fault (faults_from w (level + 1) (below_of rs) (n - (level + 1))) ≡ first_fault (faults_from w level rs (n - level))
+  pub next_told : level < n → top_fault w level rs ≡ Ok tt → first_fault (faults_from w (level + 1) (below_of rs) (n - (level + 1))) ≡ first_fault (faults_from w level rs (n - level))
   unfolding faults_from
   next_told h e =
       let left : n - level ≡ suc (n - (level + 1)) = omega arith in
       rw (left, ← (add-one level)) (sym (none_first _ (top_fault w level rs) e))
 
-  pub first_told : (f : Fault) → level < n → top_fault w level rs ≡ FaultAt f → FaultAt f ≡ first_fault (faults_from w level rs (n - level))
+  pub first_told : (f : Fault) → level < n → top_fault w level rs ≡ Err f → Err f ≡ first_fault (faults_from w level rs (n - level))
   unfolding faults_from
   first_told f h e =
       let left : n - level ≡ suc (n - (level + 1)) = omega arith in
       rw left (sym (fault_first _ (top_fault w level rs) f e))
 
-  pub none_told : n ≤ level → Sound ≡ first_fault (faults_from w level rs (n - level))
+  pub none_told : n ≤ level → (Ok tt) ≡ first_fault (faults_from w level rs (n - level))
   unfolding faults_from first_fault
   none_told h =
       let left : n - level ≡ 0 = omega arith in
@@ -96,8 +90,8 @@ unfolding level_fault stands_over
 level_agree level size places es t u h = rw (wrong_agree t u h es, ap (λ (f : Entry → Bool). all f es) (fun_ext h))
 
 -- What ends in nothing tells what stands before it.
-pub sound_behind : (js : List Judged) → first_fault (js ++ Sound ∷ []) ≡ first_fault js
+pub sound_behind : (js : List Judged) → first_fault (js ++ (Ok tt) ∷ []) ≡ first_fault js
 unfolding first_fault
 sound_behind [] = refl
-sound_behind (Sound ∷ js) = sound_behind js
-sound_behind (FaultAt f ∷ js) = refl
+sound_behind ((Ok tt) ∷ js) = sound_behind js
+sound_behind (Err f ∷ js) = refl

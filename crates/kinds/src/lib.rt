@@ -2,11 +2,8 @@
 #![tactic(auto)]
 
 ghost use Rattle.std.specs.Prelude.{◌+◌, ◌<◌, ◌≡◌, true, [], ◌∷◌, length, eqb};
-ghost use Rattle.std.specs.Bool.{beq};
-ghost use Rattle.fault.specs.declared.Judged.TheVariants.{FaultAt};
 ghost use Rattle.fault.specs.declared.Part.TheVariants.{Kinds};
 ghost use Rattle.fault.specs.Numbers.{no_place};
-ghost use Rattle.geometry.specs.Lent.{Lent};
 ghost use Rattle.rules.specs.Sound.{tree_of};
 ghost use Rattle.rules.specs.Faults.{unless, first_fault, across_fault};
 ghost use Rattle.entries.specs.Run.{Inside, entries_in};
@@ -20,8 +17,8 @@ ghost use Rattle.kinds.specs.Below.{below_of, no_entries};
 ghost use Rattle.kinds.specs.Told.{wrong_at, run_fault, top_fault, faults_from};
 
 use entries::{Run, Runs, Spots};
-use fault::{Fault, Judged, Part};
-use geometry::{Geometry, Plan};
+use fault::{Fault, Part};
+use geometry::Store;
 use laws::one_if;
 use page::is_normal;
 use slot::{Kind, Pair, Pid, SlotNo, read_slot};
@@ -35,50 +32,39 @@ pub struct KindCounts {
 
 // The first wrong entry, level by level from the top: one of the same kind as the next entry of its pair below, or a filter with none below.
 // If no entry is wrong: a fault without a place, unless live is the number of normal entries less that of filters.
-pub fn kinds_fault(store: &[u32], g: Geometry, plan: Plan) -> Judged
-    requires lent { Lent g plan store.now }
-    requires pages_within { PagesWithin g store.now }
-    requires store_value { levels_ascend (tree_of g store.now) ≡ true }
-    ensures { result ≡ across_fault g store.now }
+pub fn kinds_fault(store: &Store) -> Result<(), Fault>
+    requires pages_within { PagesWithin store.now.geometry store.now.words.now }
+    requires store_value { levels_ascend (tree_of store.now.geometry store.now.words.now) ≡ true }
+    ensures { result ≡ across_fault store.now.geometry store.now.words.now }
 {
-    let runs = entries::runs_of(store, g, plan);
-    match alternation_fault(store, runs) {
-        Judged::Sound => live_fault(store[geometry::LIVE], count_kinds(store, runs)),
-        Judged::FaultAt(found) => Judged::FaultAt(found),
-    }
+    let words = store.words;
+    let runs = entries::runs_of(store);
+    alternation_fault(words, runs)?;
+    live_fault(words[geometry::LIVE], count_kinds(words, runs))
 }
 
 // A fault without a place, unless live and the filters make the normal entries.
-fn live_fault(live: u32, counts: KindCounts) -> Judged
+fn live_fault(live: u32, counts: KindCounts) -> Result<(), Fault>
     ensures { result ≡ unless (eqb (live + counts.filters) counts.normal) (no_place Kinds) }
 {
-    if live as u64 + counts.filters as u64 == counts.normal as u64 {
-        return Judged::Sound;
+    if u64::from(live) + u64::from(counts.filters) == u64::from(counts.normal) {
+        return Ok(());
     }
-    Judged::FaultAt(Fault {
-        part: Part::Kinds,
-        level: 0,
-        page: 0,
-        slot: 0,
-    })
+    Err(Fault::of(Part::Kinds))
 }
 
 // The normal entries and the filters of four runs.
+#[tactic(auto, using(crate::specs::KindCounts::count_four), unfolding(entries::specs::Levels::tree_in))]
 fn count_kinds(words: &[u32], runs: Runs) -> KindCounts
     requires { AllInside runs (length words.now) }
     ensures { result ≡ tree_counts (tree_in words.now runs) }
 {
-    let run = runs.head;
-    let head = count_run(words, run);
-    let run = runs.first;
-    let first = count_run(words, run);
-    let run = runs.second;
-    let second = count_run(words, run);
-    let run = runs.third;
-    let third = count_run(words, run);
+    let counts = runs.map(|run| count_run(words, run));
     KindCounts {
-        normal: head.normal + (first.normal + (second.normal + third.normal)),
-        filters: head.filters + (first.filters + (second.filters + third.filters)),
+        normal: counts.head.normal
+            + (counts.first.normal + (counts.second.normal + counts.third.normal)),
+        filters: counts.head.filters
+            + (counts.first.filters + (counts.second.filters + counts.third.filters)),
     }
 }
 
@@ -88,14 +74,12 @@ fn count_run(words: &[u32], run: Run) -> KindCounts
     ensures exact { result ≡ level_counts (entries_in words.now run) }
     ensures small { CountsSmall result }
 {
-    let mut normal: u32 = 0;
-    let mut filters: u32 = 0;
-    let mut page: u32 = 0;
-    while page < run.pages {
+    let mut normal = 0;
+    let mut filters = 0;
+    for page in 0..run.pages {
         let counts = count_page(words, run, Pid(page));
         normal += counts.normal;
         filters += counts.filters;
-        page += 1;
     }
     KindCounts { normal, filters }
 }
@@ -106,16 +90,12 @@ fn count_page(words: &[u32], run: Run, page: Pid) -> KindCounts
     requires page_lt_pages { page.0 < run.pages }
     ensures { result ≡ level_counts (page_from words.now run page.0 0) }
 {
-    let slots = entries::count_in(words, run, page);
-    let mut normal: u32 = 0;
-    let mut filters: u32 = 0;
-    let mut slot: u32 = 0;
-    while slot < slots {
+    let mut normal = 0;
+    let mut filters = 0;
+    for slot in 0..entries::count_in(words, run, page) {
         let read = read_slot(words, entries::place_in(run, page, SlotNo(slot)));
-        let kind = read.kind;
-        normal += one_if(is_normal(kind));
-        filters += one_if(is_filter(kind));
-        slot += 1;
+        normal += one_if(is_normal(read.kind));
+        filters += one_if(is_filter(read.kind));
     }
     KindCounts { normal, filters }
 }
@@ -124,66 +104,51 @@ fn count_page(words: &[u32], run: Run, page: Pid) -> KindCounts
 fn is_filter(kind: Kind) -> bool
     ensures { result ≡ filter_kind kind }
 {
-    match kind {
-        Kind::Normal => false,
-        Kind::Filter => true,
-        Kind::External => false,
-        Kind::Internal => false,
-    }
+    matches!(kind, Kind::Filter)
 }
 
 // The first wrong entry of four runs, from the top down.
-fn alternation_fault(words: &[u32], runs: Runs) -> Judged
+fn alternation_fault(words: &[u32], runs: Runs) -> Result<(), Fault>
     requires all_inside { AllInside runs (length words.now) }
     requires runs_value { levels_ascend (tree_in words.now runs) ≡ true }
     ensures { result ≡ first_fault (faults_from words.now 0 runs 4) }
 {
     let mut top = runs;
-    let mut level: u32 = 0;
-    while level < geometry::MOST_LEVELS {
-        match top_fault(words, top, level) {
-            Judged::Sound => {
-                top = below(top);
-                level += 1;
-            }
-            Judged::FaultAt(found) => return Judged::FaultAt(found),
-        }
+    for level in 0..geometry::MOST_LEVELS {
+        top_fault(words, top, level)?;
+        top = below(top);
     }
-    Judged::Sound
+    Ok(())
 }
 
 // The runs below the top one.
+#[tactic(auto, unfolding(crate::specs::Below::below_of))]
 fn below(runs: Runs) -> Runs
     ensures { result ≡ below_of runs }
 {
-    let head = runs.first;
-    let first = runs.second;
-    let second = runs.third;
-    let third = Run {
-        start: 0,
-        pages: 0,
-        most: 0,
-    };
     Runs {
-        head,
-        first,
-        second,
-        third,
+        head: runs.first,
+        first: runs.second,
+        second: runs.third,
+        third: Run {
+            start: 0,
+            pages: 0,
+            most: 0,
+        },
     }
 }
 
 // The first wrong entry of the top one of four runs, over those below it.
-fn top_fault(words: &[u32], runs: Runs, level: u32) -> Judged
+fn top_fault(words: &[u32], runs: Runs, level: u32) -> Result<(), Fault>
     requires all_inside { AllInside runs (length words.now) }
     requires runs_value { levels_ascend (tree_in words.now runs) ≡ true }
     ensures { result ≡ top_fault words.now level runs }
 {
-    let top = runs.head;
     let lower = below(runs);
-    if stands_alone(words, top, lower) {
-        return Judged::Sound;
+    if stands_alone(words, runs.head, lower) {
+        return Ok(());
     }
-    run_fault(words, top, lower, level)
+    run_fault(words, runs.head, lower, level)
 }
 
 // Whether a run has no filter and the runs below it no entry. Only a yes is promised to be right: after a no the run is tested entry by entry.
@@ -192,11 +157,7 @@ fn stands_alone(words: &[u32], top: Run, lower: Runs) -> bool
     requires all_inside { AllInside lower (length words.now) }
     ensures { result ≡ true → stands_over (entries_in words.now top) (tree_in words.now lower) ≡ true }
 {
-    if !all_empty(words, lower) {
-        return false;
-    }
-    let counts = count_run(words, top);
-    counts.filters == 0
+    all_empty(words, lower) && count_run(words, top).filters == 0
 }
 
 // Whether four runs have no entries. Only a yes is promised to be right.
@@ -204,15 +165,8 @@ fn all_empty(words: &[u32], runs: Runs) -> bool
     requires { AllInside runs (length words.now) }
     ensures { result ≡ true → tree_in words.now runs ≡ no_entries }
 {
-    let run = runs.head;
-    let head = is_empty(words, run);
-    let run = runs.first;
-    let first = is_empty(words, run);
-    let run = runs.second;
-    let second = is_empty(words, run);
-    let run = runs.third;
-    let third = is_empty(words, run);
-    head & first & second & third
+    let empty = runs.map(|run| is_empty(words, run));
+    empty.head & empty.first & empty.second & empty.third
 }
 
 // Whether a run has no entries. Only a yes is promised to be right.
@@ -224,62 +178,47 @@ fn is_empty(words: &[u32], run: Run) -> bool
 }
 
 // The first wrong entry of a run over the runs below it, entry by entry.
-fn run_fault(words: &[u32], top: Run, lower: Runs, level: u32) -> Judged
+fn run_fault(words: &[u32], top: Run, lower: Runs, level: u32) -> Result<(), Fault>
     requires inside { Inside top (length words.now) }
     requires all_inside { AllInside lower (length words.now) }
     requires lower_value { levels_ascend (entries_in words.now top ∷ tree_in words.now lower) ≡ true }
     ensures { result ≡ run_fault words.now level top (tree_in words.now lower) }
 {
     let least = slot::least_pair();
-    let mut spots = Spots {
-        head: 0,
-        first: 0,
-        second: 0,
-        third: 0,
-    };
+    let mut spots = lower.map(|_| 0);
     let mut spot = entries::skip_to(words, top, 0, least);
     while !entries::is_ended(top, spot) {
         let entry = entries::entry_at(words, top, spot);
         let next = spot + 1;
-        let pair = entry.pair;
-        spots = entries::spots_from(words, lower, spots, pair);
-        if agree(entry.normal, held_at(words, lower, spots, pair)) {
-            return wrong_at(level, spot);
+        spots = entries::spots_from(words, lower, spots, entry.pair);
+        if entry.normal == held_at(words, lower, spots, entry.pair) {
+            return Err(wrong_at(level, spot));
         }
         spot = entries::skip_to(words, top, next, least);
     }
-    Judged::Sound
+    Ok(())
 }
 
 // The fault of the wrong entry at a spot of a level.
-fn wrong_at(level: u32, spot: u64) -> Judged
-    ensures { result ≡ FaultAt (wrong_at level spot) }
+fn wrong_at(level: u32, spot: u64) -> Fault
+    ensures { result ≡ wrong_at level spot }
 {
     let cursor = entries::cursor_at(spot);
-    let page = cursor.page;
-    let slot = cursor.slot;
-    Judged::FaultAt(Fault {
-        part: Part::Kinds,
-        level,
-        page: page.0,
-        slot: slot.0,
-    })
+    Fault::at(Part::Kinds, level, cursor.page.0, cursor.slot.0)
 }
 
 // Whether the topmost entry of a pair at four spots holds it.
+#[tactic(auto, unfolding(crate::specs::Standing::held_first, entries::specs::Spot::upcomings))]
 fn held_at(words: &[u32], runs: Runs, spots: Spots, pair: Pair) -> bool
     requires all_inside { AllInside runs (length words.now) }
     requires all_standing { AllStanding words.now runs spots }
     ensures { result ≡ held_first pair (upcomings words.now runs spots) }
 {
-    let run = runs.third;
-    let lowest = told_at(words, run, spots.third, pair, false);
-    let run = runs.second;
-    let lower = told_at(words, run, spots.second, pair, lowest);
-    let run = runs.first;
-    let upper = told_at(words, run, spots.first, pair, lower);
-    let run = runs.head;
-    told_at(words, run, spots.head, pair, upper)
+    runs.zip_up(
+        spots,
+        false,
+        |run, spot, below| told_at(words, run, spot, pair, below),
+    )
 }
 
 // What the entry at a spot says of a pair, over what those below say.
@@ -292,17 +231,9 @@ fn told_at(words: &[u32], run: Run, spot: u64, pair: Pair, below: bool) -> bool
         return below;
     }
     let entry = entries::entry_at(words, run, spot);
-    let own = entry.pair;
-    if slot::same_pair(pair, own) {
+    if slot::same_pair(pair, entry.pair) {
         entry.normal
     } else {
         below
     }
-}
-
-// Whether two kinds are one.
-fn agree(a: bool, b: bool) -> bool
-    ensures { result ≡ beq a b }
-{
-    if a { b } else { !b }
 }

@@ -22,5 +22,5 @@ pub fn one_if(a: bool) -> u32
     ensures exact { result ≡ cond a 1 0 }
     ensures small { result ≤ 1 }
 {
-    if a { 1 } else { 0 }
+    u32::from(a)
 }

@@ -1,29 +1,17 @@
 -- Where a level's words, or the head's, first leave the writing of its own entries: the first slot that does not stand. Assumes nothing.
-use Prim.Native.Nat.{ℕ, zero, suc, ◌+◌, ◌-◌, ◌*◌, ◌/◌, ◌%◌, ◌≤◌, ◌<◌, min}
-use Rattle.std.proofs.Common.{zero-add, add-zero, sym, ◌∙◌, get_or-append-add}
-use Rattle.std.proofs.Math.Nat.{div-eq_of_lt, mod-eq_of_lt}
-use native.Mathlib.Omega.{arith}
-use Rattle.std.specs.Prelude.{◌≡◌, Bool, ◌&&◌, List, [], ◌∷◌, ◌++◌, drop, replicate}
-use Rattle.std.proofs.Math.Path.{refl}
-use Rattle.std.proofs.Math.Bool.{true, false, cond}
-use Rattle.std.proofs.Math.ListN.{length, get_or, get_or-append, get_or-replicate}
-use Rattle.std.proofs.Math.Seq.{get_or-take, get_or-drop}
-use Rattle.std.proofs.Math.Dec.{leb, ltb, eqb}
-use borrow.Author.Tests.{ltb-true, ltb-false, leb-true, le-leb}
-use Rattle.laws.specs.Lists.{span, concat}
+use Prim.Native.Nat.{ℕ, ◌+◌, ◌*◌, ◌≤◌}
+use Rattle.std.proofs.Common.{◌∙◌}
+use Rattle.std.specs.Prelude.{◌≡◌, List, ◌∷◌}
+use Rattle.std.proofs.Math.ListN.{length, get_or}
+use Rattle.std.proofs.Math.Dec.{eqb}
 use Rattle.laws.specs.First.{first_not}
-use Rattle.geometry.specs.Places.{erased, slots_in_page}
+use Rattle.geometry.specs.Places.{slots_in_page}
 use Rattle.slot.specs.declared.Slot.{Slot}
-use Rattle.slot.specs.Pair.{least}
-use Rattle.slot.specs.Slot.{words_of}
-use Rattle.rules.specs.Level.{external, pages_for, page_of}
-use Rattle.rules.specs.Store.{run_words, page_words, level_words}
+use Rattle.rules.specs.Store.{run_words, level_words}
 use Rattle.rules.specs.Faults.{leaving}
-use Rattle.layout.specs.Run.{words_of_all, words_length}
-use Rattle.layout.specs.Pages.{level_page, level_pages, page_used, page_unused, page_length, level_page_length}
 use Rattle.entries.specs.declared.Run.{Run}
-use Rattle.leaving.specs.Grouped.{first_agree, words_at, pages_grouped, page_grouped}
-use Rattle.leaving.specs.Stands.{count_wanted, numbered, stands, Holds}
+use Rattle.leaving.specs.Grouped.{first_agree, pages_grouped, page_grouped}
+use Rattle.leaving.specs.Stands.{stands}
 use Rattle.leaving.proofs.Stands.{stands_compared}
 use Rattle.leaving.specs.Leaving.{head_holds, level_holds}
 

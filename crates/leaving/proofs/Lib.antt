@@ -1,3 +1,4 @@
 -- Theorems that rest on the definitions of specs/.
 pub mod Leaving
 pub mod Stands
+pub mod Unused

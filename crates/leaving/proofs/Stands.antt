@@ -1,23 +1,14 @@
 -- Whether a slot stands in words as the writing has it, with its page's count where it opens a page: what the clauses of src/lib.rt cite, and
 -- that this compares the words of the writing one by one. Assumes nothing.
-use Rattle.std.specs.Prelude.{ℕ, ◌+◌, ◌-◌, ◌*◌, ◌/◌, ◌%◌, ◌≤◌, ◌<◌, min, Bool, cond, ◌&&◌, List, [], length, get_or, leb}
+use Rattle.std.specs.Prelude.{ℕ, ◌+◌, ◌*◌, ◌/◌, ◌%◌, ◌<◌, Bool, ◌&&◌, List, length, get_or}
 use native.Mathlib.Omega.{arith}
 use Rattle.std.proofs.Math.Path.{◌≡◌, refl}
-use Rattle.std.proofs.Common.{sym, ◌∙◌}
+use Rattle.std.proofs.Common.{◌∙◌}
 use Rattle.std.proofs.Math.Bool.{true, false}
-use Rattle.std.proofs.lemmas.Bool.{false≢true}
 use Rattle.std.proofs.Math.Dec.{ltb, eqb}
-use borrow.Author.Tests.{eqb-true, eq-eqb, ltb-true, ltb-false, leb-false}
-use Rattle.laws.specs.Tests.{and_left, and_right, and_assoc}
-use Rattle.laws.specs.Flat.{bool_agree}
-use Rattle.geometry.specs.Places.{erased, words_in_page}
+use borrow.Author.Tests.{eqb-true, ltb-true, ltb-false}
 use Rattle.slot.specs.declared.Slot.{Slot}
-use Rattle.slot.specs.declared.Kind.{Kind}
-use Rattle.slot.specs.declared.Pid.{Pid}
-use Rattle.slot.specs.Pair.{least}
-use Rattle.slot.specs.Tag.{kind_number, kind_of, page_of, tag_of, tag_again, kind_back, page_back}
 use Rattle.slot.specs.Slot.{slot_at, words_of}
-use Rattle.rules.specs.Level.{external}
 use Rattle.layout.specs.Stream.{same_slot}
 use Rattle.entries.specs.declared.Run.{Run}
 use Rattle.entries.specs.Run.{place_in}

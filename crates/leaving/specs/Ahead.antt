@@ -33,7 +33,7 @@ module _ (w : List ℕ) (writing : Writing) where
   entries_from spot = upcoming w writing.own spot
 
   abbrev below : ℕ
-  below = writing.below
+  below = writing.below.pages
 
   -- At the first spot all slots are still to come.
   pub ahead_first : (spot : ℕ) → entries_from spot ≡ entries_in w writing.own → ahead w writing 0 spot 0 ≡ writes w writing
@@ -103,12 +103,12 @@ module _ (w : List ℕ) (writing : Writing) where
     -- So what is next, as the code tells it: a fence, an internal fence, or an entry.
     module _ (stands : Standing w writing.own spot) where
       pub follows_last : (r : Next) → leb writing.own.pages (page_at spot) ≡ true → fence < below → r ≡ past_fence w writing spot fence →
-          Follows w writing n spot fence r.slot r.spot r.fence
+          Follows w writing n spot fence r.slot r.coming.spot r.coming.fence
       unfolding past_fence
       follows_last r ends h e = rw e (record { told = last_fence_lem ends h; stands = stands })
 
       pub follows_fence : (r : Next) (e : Entry) (es : Level) → e ∷ es ≡ entries_from spot → entry_next (first_below w writing) below fence e.pair ≡ false →
-          r ≡ past_fence w writing spot fence → Follows w writing n spot fence r.slot r.spot r.fence
+          r ≡ past_fence w writing spot fence → Follows w writing n spot fence r.slot r.coming.spot r.coming.fence
       unfolding past_fence
       follows_fence r e es first h q = rw q (record { told = fence_before e es first h; stands = stands })
 

@@ -1,5 +1,5 @@
 -- A walk along a writing, slot by slot: what it knows at slot n, how it goes on, and that no sum on the way is large. Assumes nothing.
-use Rattle.std.specs.Prelude.{ℕ, ◌+◌, ◌-◌, ◌*◌, ◌/◌, ◌≤◌, ◌<◌, ◌≡◌, Bool, true, false, List, [], ◌∷◌, length, drop}
+use Rattle.std.specs.Prelude.{ℕ, ◌+◌, ◌-◌, ◌*◌, ◌/◌, ◌≤◌, ◌<◌, ◌≡◌, Bool, true, false, List, ◌∷◌, length, drop}
 use Rattle.std.proofs.Common.{div-lt_iff_lt-mul, mul_comm, mul-le-mul, add-one, arith, ap, ◌∙◌, length-drop, drop-cons}
 use Rattle.std.proofs.Math.Nat.{mod-lt}
 use Rattle.laws.specs.Lists.{length_span}
@@ -47,7 +47,7 @@ module _ (w : List ℕ) (writing : Writing) (within : Within w writing) where
   pub writes_few : length (writes w writing) ≤ 16004000
   unfolding writes
   writes_few =
-      omega (arith, within.below_few, few_in w writing.own (length w) own_inside, laid_most writing.fenced (first_below w writing) writing.below (entries_in w writing.own))
+      omega (arith, within.below_few, few_in w writing.own (length w) own_inside, laid_most writing.fenced (first_below w writing) writing.below.pages (entries_in w writing.own))
 
   -- The room's slots are few, and each lies inside the words with its page's count.
   pub room_few : writing.own.most * writing.room ≤ 8000000

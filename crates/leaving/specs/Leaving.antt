@@ -8,22 +8,19 @@ use Rattle.std.proofs.Math.Path.{refl}
 use Rattle.std.proofs.Math.Bool.{true, false, cond}
 use Rattle.std.proofs.Math.ListN.{length, get_or, get_or-append, get_or-replicate}
 use Rattle.std.proofs.Math.Seq.{get_or-take, get_or-drop}
-use Rattle.std.proofs.Math.Dec.{leb, ltb, eqb}
+use Rattle.std.proofs.Math.Dec.{leb, ltb}
 use borrow.Author.Tests.{ltb-true, ltb-false, leb-true, le-leb}
 use Rattle.laws.specs.Lists.{span, concat}
-use Rattle.laws.specs.First.{first_not}
-use Rattle.geometry.specs.Places.{erased, slots_in_page}
+use Rattle.geometry.specs.Places.{erased}
 use Rattle.slot.specs.declared.Slot.{Slot}
 use Rattle.slot.specs.Pair.{least}
 use Rattle.slot.specs.Slot.{words_of}
 use Rattle.rules.specs.Level.{external, pages_for, page_of}
 use Rattle.rules.specs.Store.{run_words, page_words, level_words}
-use Rattle.rules.specs.Faults.{leaving}
 use Rattle.layout.specs.Run.{words_of_all, words_length}
 use Rattle.layout.specs.Pages.{level_page, level_pages, page_used, page_unused, page_length, level_page_length}
-use Rattle.entries.specs.declared.Run.{Run}
-use Rattle.leaving.specs.Grouped.{first_agree, words_at, pages_grouped, page_grouped}
-use Rattle.leaving.specs.Stands.{count_wanted, numbered, stands, Holds}
+use Rattle.leaving.specs.Grouped.{words_at}
+use Rattle.leaving.specs.Stands.{count_wanted, numbered, Holds}
 
 -- The count of a page that has slots, and of an unused page.
 module _ (total most n : ℕ) where

@@ -1,13 +1,13 @@
 -- Whether a slot stands in words as the writing has it, with its page's count where it opens a page: what the clauses of src/lib.rt cite, and
 -- that this compares the words of the writing one by one. Assumes nothing.
-use Rattle.std.specs.Prelude.{ℕ, ◌+◌, ◌-◌, ◌*◌, ◌/◌, ◌%◌, ◌≤◌, ◌<◌, min, Bool, cond, ◌&&◌, List, [], length, get_or, leb}
+use Rattle.std.specs.Prelude.{ℕ, ◌+◌, ◌-◌, ◌*◌, ◌/◌, ◌%◌, ◌≤◌, ◌<◌, min, Bool, cond, ◌&&◌, List, length, get_or, leb}
 use native.Mathlib.Omega.{arith}
 use Rattle.std.proofs.Math.Path.{◌≡◌, refl}
 use Rattle.std.proofs.Common.{sym, ◌∙◌}
 use Rattle.std.proofs.Math.Bool.{true, false}
 use Rattle.std.proofs.lemmas.Bool.{false≢true}
 use Rattle.std.proofs.Math.Dec.{ltb, eqb}
-use borrow.Author.Tests.{eqb-true, eq-eqb, ltb-true, ltb-false, leb-false}
+use borrow.Author.Tests.{eqb-true, eq-eqb, leb-false}
 use Rattle.laws.specs.Tests.{and_left, and_right, and_assoc}
 use Rattle.laws.specs.Flat.{bool_agree}
 use Rattle.geometry.specs.Places.{erased, words_in_page}
@@ -21,7 +21,7 @@ use Rattle.rules.specs.Level.{external}
 use Rattle.layout.specs.Stream.{same_slot}
 use Rattle.entries.specs.declared.Run.{Run}
 use Rattle.entries.specs.Run.{place_in}
-use Rattle.leaving.specs.Grouped.{words_at, opens, passes_at}
+use Rattle.leaving.specs.Grouped.{words_at}
 
 -- The count of the page that slot n opens, where the writing has `total` slots: those from n on, at most as many as a page has. A page without
 -- slots is unused, unless it is the first.

@@ -1,6 +1,8 @@
--- The loop that compares bytes with those at a place of the input. Assumes nothing.
-use Rattle.std.specs.Prelude.{ℕ, suc, ◌+◌, ◌≤◌, ◌<◌, ◌≡◌, refl, Bool, true, false, length, get_or, drop}
-use Rattle.std.proofs.Common.{add-zero, add-suc, add-one, arith, ◌∙◌, drop_of_length-le, drop-cons, eq-eqb, ne_eqb}
+-- Bytes compared with those at a place of the input. Assumes nothing.
+use Rattle.std.specs.Prelude.{ℕ, suc, ◌+◌, ◌≤◌, ◌<◌, ◌≡◌, refl, Bool, true, false, ◌&&◌, length, get_or, take, drop, nat_eq, eqb}
+use Rattle.std.specs.Cmp.Lexicographic.{pointwise}
+use Rattle.std.proofs.Common.{add-zero, add-suc, add-one, arith, ◌∙◌, drop_of_length-le, drop-cons, eq-eqb, ne_eqb, eqb-true}
+use Rattle.std.proofs.lemmas.Bool.{eqb-false}
 use Rattle.std.proofs.Math.Path.{sym, ap}
 use mathlib.Core.List.{List, [], ◌∷◌}
 use Rattle.lines.specs.Lines.{begins, begins_that, begins_other, begins_long}
@@ -46,3 +48,14 @@ module _ (w : List ℕ) (at : ℕ) (text : List ℕ) where
     pub compare_ends : length text ≤ j → true ≡ begins text (drop at w)
     unfolding begins
     compare_ends h = sym (c.agrees ∙ ap (λ (l : List ℕ). begins l (drop (at + j) w)) (drop_of_length-le text h))
+
+-- The library's test whether bytes begin with a text.
+pub begins_told : (text bs : List ℕ) → pointwise nat_eq text (take (length text) bs) ≡ begins text bs
+unfolding begins
+begins_told [] bs = refl
+begins_told (n ∷ ns) [] = refl
+begins_told (n ∷ ns) (b ∷ bs) = by (eqb b n) refl (begins_told ns bs)
+  where
+    by : (x : Bool) → eqb b n ≡ x → pointwise nat_eq ns (take (length ns) bs) ≡ begins ns bs → (nat_eq n b && pointwise nat_eq ns (take (length ns) bs)) ≡ begins (n ∷ ns) (b ∷ bs)
+    by true e ih = rw (eq-eqb n b (sym (eqb-true b n e))) (ih ∙ sym (begins_that n ns b bs e))
+    by false e ih = rw (ne_eqb n b (λ same. eqb-false b n e (sym same))) (sym (begins_other n ns b bs e))

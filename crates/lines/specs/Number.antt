@@ -1,6 +1,6 @@
 -- The numbers of a text: in decimal without leading zeros, at most 32 bits. Assumes nothing.
 use Rattle.std.specs.Prelude.{ℕ, ◌+◌, ◌-◌, ◌*◌, ◌≤◌, ◌<◌, ◌≡◌, refl, Bool, true, false, ◌&&◌, List, [], ◌∷◌, length, get_or, leb, ltb, eqb}
-use Rattle.std.proofs.Common.{arith, leb-true, eq-eqb, ne_eqb}
+use Rattle.std.proofs.Common.{arith, leb-true, eq-eqb, ne_eqb, eqb-true}
 use Rattle.std.proofs.Math.Option.{Option, some, none}
 use Rattle.laws.specs.Tests.{and_left, and_right}
 use Rattle.lines.specs.Lines.{Line, behind}
@@ -78,3 +78,14 @@ pub numeral_digits : (bs : List ℕ) → 0 < length bs → (get_or bs 0 0 ≡ 48
 unfolding numeral
 numeral_digits [] h e = absurd (omega (arith, h))
 numeral_digits (b ∷ bs) h e = rw (ne_eqb b 48 e, numeral)
+
+-- One digit alone is the number that it makes, a zero too.
+pub numeral_one : (bs : List ℕ) → length bs ≡ 1 → numeral bs ≡ number_from 0 bs
+unfolding numeral number_from goes_on is_digit
+numeral_one [] h = absurd (omega (arith, h))
+numeral_one (b ∷ c ∷ bs) h = absurd (omega (arith, h))
+numeral_one (b ∷ []) h = by (eqb b 48) refl
+  where
+    by : (x : Bool) → eqb b 48 ≡ x → numeral (b ∷ []) ≡ number_from 0 (b ∷ [])
+    by true e = rw (eqb-true b 48 e) refl
+    by false e = numeral_digits (b ∷ []) (omega arith) (λ same. let wrong = eq-eqb b 48 same in cc)

@@ -1,11 +1,12 @@
--- The loop that seeks the byte 10 at the end of a line. Assumes nothing.
-use Rattle.std.specs.Prelude.{ℕ, suc, ◌+◌, ◌-◌, ◌≤◌, ◌<◌, ◌≡◌, refl, length, get_or, take, drop}
-use Rattle.std.proofs.Common.{add-one, arith, sym, ◌∙◌, length-drop, drop_of_length-le, drop-cons, take-suc, get_or-drop, ne_eqb}
+-- The byte 10 at the end of a line, sought byte by byte. Assumes nothing.
+use Rattle.std.specs.Prelude.{ℕ, zero, suc, ◌+◌, ◌-◌, ◌≤◌, ◌<◌, ◌≡◌, refl, length, get_or, take, drop, Option as Answer, Some, None, MatchOption, option_map}
+use Rattle.std.specs.List.{AllWithin, HoldsAt}
+use Rattle.std.proofs.Common.{add-zero, add-one, add-suc, arith, sym, ◌∙◌, length-drop, drop_of_length-le, drop-cons, take-suc, get_or-drop, ne_eqb}
 use Rattle.std.proofs.Math.Path.{ap}
 use mathlib.Core.List.{List, [], ◌∷◌, ◌++◌, append-nil, append_assoc}
 use Rattle.std.proofs.Math.Option.{some, none}
 use Rattle.lines.specs.Lines.{Line, longer, lines_of, first_among, rest_of, line_ends, line_goes_on, rest_stays}
-use Rattle.lines.specs.Told.{ahead, EndsAt}
+use Rattle.lines.specs.Told.{ahead, EndsAt, LineEnds}
 
 -- A line with more bytes in front.
 abbrev after : List ℕ → Line → Line
@@ -83,3 +84,24 @@ module _ (w : List ℕ) (from : ℕ) where
                 rw (passed_more, add-one at);
             rest = c.rest ∙ ap rest_of here ∙ rest_stays byte (drop (suc at) w) (ne_eqb byte 10 other) ∙ ap (λ (i : ℕ). rest_of (ahead w i)) (sym (add-one at));
           }
+
+  -- Where no byte before one of them is byte 10, all before it belong to the line; so the first byte 10, or that there is none, tells how the line ends.
+  module _ (in_place : from ≤ length w) where
+    abbrev Other : ℕ → Type 0
+    Other b = b ≡ 10 → ⊥
+
+    seek_up : (n : ℕ) → from + n ≤ length w → AllWithin Other (drop from w) 0 n → Seeking w from (from + n)
+    seek_up zero h others = rw (add-zero from) (seek_begins in_place)
+    seek_up (suc n) h others =
+        let other : get_or w (from + n) 0 ≡ 10 → ⊥ = λ e. others n 0 (omega arith) (omega arith) (get_or-drop from w n 0 ∙ e) in
+        rw (add-suc from n, ← add-one (from + n)) (seek_goes_on (from + n) (seek_up n (omega arith) (λ k d l m. others k d l (omega arith))) (omega arith) other)
+
+    pub seek_told : (r : Answer ℕ) →
+        MatchOption r (AllWithin Other (drop from w) 0 (length (drop from w))) (λ i. (i < length (drop from w)) × HoldsAt (λ b. b ≡ 10) (drop from w) i × AllWithin Other (drop from w) 0 i) →
+        LineEnds w from (option_map (λ n. from + n) r)
+    seek_told None others =
+        let all : from + length (drop from w) ≡ length w = omega (arith, length-drop from w) in
+        rw (← all) (seek_fails (from + length (drop from w)) (seek_up (length (drop from w)) (omega arith) others) (omega arith))
+    seek_told (Some i) (inside, here, others) =
+        let before : from + i < length w = omega (arith, length-drop from w) in
+        (before, seek_ends (from + i) (seek_up i (omega arith) others) before (sym (get_or-drop from w i 0) ∙ here 0))

@@ -1,18 +1,16 @@
 -- How far a listing has come, as the loop of src/lib.rt carries it: what the levels ahead still give completes the rules' list.
 -- Assumes nothing.
-use Rattle.std.specs.Prelude.{ℕ, suc, ◌+◌, ◌*◌, ◌/◌, ◌≤◌, ◌<◌, ◌≡◌, Bool, true, false, List, [], length, set}
+use Rattle.std.specs.Prelude.{ℕ, suc, ◌+◌, ◌*◌, ◌/◌, ◌≤◌, ◌<◌, ◌≡◌, true, false, List, [], length, set}
 use Rattle.std.proofs.Common.{arith, ap, sym, ◌∙◌, length-set}
 use Rattle.std.proofs.Math.Option.{none, some}
-use Rattle.laws.specs.Tests.{and_true}
 use Rattle.slot.specs.declared.Pair.{Pair}
-use Rattle.slot.specs.Pair.{before, least, least_first}
-use Rattle.slot.specs.Order.{above_not_before}
+use Rattle.slot.specs.Pair.{before, least}
 use Rattle.rules.specs.Tree.{Entry, Tree, rank_of}
-use Rattle.rules.specs.Listing.{held_between, Listed, list}
+use Rattle.rules.specs.Listing.{held_between, Listed}
 use Rattle.entries.specs.Ascending.{AllFrom, all_from_lower}
-use Rattle.listing.specs.Merge.{least_of, past_all, entry_count, NextIs, next_is_least, all_from_past, wanted}
+use Rattle.listing.specs.Merge.{least_of, past_all, entry_count, NextIs, next_is_least, all_from_past}
 use Rattle.listing.proofs.Merge.{held_between_listed, held_between_passed, held_between_none, held_between_over}
-use Rattle.listing.specs.Writing.{list_from, list_begins, list_puts, list_full, list_done}
+use Rattle.listing.specs.Writing.{list_from, list_puts, list_full, list_done}
 use Rattle.listing.specs.Going.{Going, wanted_by_kind}
 
 module _ (second : Pair) (n : ℕ) (t : Tree) (slice : List ℕ) (whole : Listed) (so : Going second n t slice whole) where

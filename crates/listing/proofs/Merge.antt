@@ -1,21 +1,20 @@
 -- A merge of levels that ascend: the least pair among the levels' first entries comes next, the topmost level that has it decides whether it
 -- is held, and every level that has it moves on. So the held pairs come out in order. Assumes nothing.
-use Rattle.std.specs.Prelude.{ℕ, suc, ◌+◌, ◌≤◌, ◌<◌, ◌≡◌, refl, ◌&&◌, length}
-use Rattle.std.proofs.Common.{le_refl, arith, sym, subst, ◌∙◌}
+use Rattle.std.specs.Prelude.{suc, ◌≡◌, ◌&&◌}
+use Rattle.std.proofs.Common.{arith, sym, ◌∙◌}
 use Rattle.std.proofs.Math.Path.{ap, ap₂}
 use Rattle.std.proofs.Math.Bool.{Bool, true, false, not}
 use mathlib.Core.List.{List, [], ◌∷◌}
-use Rattle.std.proofs.Math.Option.{Option, none, some}
-use Rattle.laws.specs.Lists.{passing, passing_no}
+use Rattle.std.proofs.Math.Option.{none}
+use Rattle.laws.specs.Lists.{passing}
 use Rattle.laws.specs.Tests.{and_false_right}
 use Rattle.slot.specs.declared.Pair.{Pair}
-use Rattle.slot.specs.Pair.{rank, before, same}
-use Rattle.slot.specs.Order.{before_below, not_before_above, same_level, not_same_apart, below_before, above_not_before, level_same, apart_not_same}
-use Rattle.rules.specs.Tree.{Entry, Level, Tree, rank_of}
-use Rattle.rules.specs.Finding.{find, held}
-use Rattle.rules.specs.Listing.{insert, pairs_with, pairs_of, held_between}
-use Rattle.entries.specs.Ascending.{From, AllFrom, from_lower_lem, all_from_lower, find_here, find_on, find_above, held_met, held_absent, held_agree}
-use Rattle.listing.specs.Merge.{NextIs, all_from_past, held_past, least_of, pairs_of_from, passing_agree, passing_none, past, past_all, spent, wanted}
+use Rattle.slot.specs.Pair.{before}
+use Rattle.slot.specs.Order.{before_below, below_before}
+use Rattle.rules.specs.Tree.{Entry, Tree, rank_of}
+use Rattle.rules.specs.Finding.{held}
+use Rattle.rules.specs.Listing.{pairs_of, held_between}
+use Rattle.listing.specs.Merge.{NextIs, all_from_past, held_past, least_of, pairs_of_from, passing_agree, passing_none, past_all, spent, wanted}
 
 module _ (first second : Pair) where
   -- The pair that comes next is listed if it is wanted, and then those of the levels that moved on.

@@ -1,20 +1,20 @@
 -- The held pairs of a range are those up to its second pair of the levels from its first pair on. Assumes nothing.
-use Rattle.std.specs.Prelude.{ℕ, zero, suc, ◌≤◌, ◌<◌, ◌≡◌, refl, Bool, true, false, ◌&&◌, [], ◌∷◌}
+use Rattle.std.specs.Prelude.{ℕ, zero, suc, ◌<◌, ◌≡◌, refl, Bool, true, false, ◌&&◌}
 use Rattle.std.proofs.Math.Nat.{le_refl}
-use Rattle.std.proofs.Common.{arith, ap₂, ◌∙◌}
+use Rattle.std.proofs.Common.{arith, ◌∙◌}
 use Rattle.std.proofs.Math.Path.{ap, sym}
 use Rattle.std.proofs.Math.Bool.{not}
 use Rattle.std.proofs.Math.Option.{Option, none, some}
 use Rattle.laws.specs.Tests.{and_false_right}
 use Rattle.slot.specs.declared.Pair.{Pair}
-use Rattle.slot.specs.Pair.{rank, before, same, least, least_first}
-use Rattle.slot.specs.Order.{before_below, not_before_above, below_before, above_not_before, same_level}
-use Rattle.rules.specs.Tree.{Entry, Level, Tree, rank_of}
+use Rattle.slot.specs.Pair.{rank, before, least, least_first}
+use Rattle.slot.specs.Order.{not_before_above, above_not_before}
+use Rattle.rules.specs.Tree.{Entry, Tree, rank_of}
 use Rattle.rules.specs.Finding.{held}
 use Rattle.rules.specs.Listing.{pairs_of, held_between}
-use Rattle.entries.specs.Ascending.{From, AllFrom, all_from_lower}
-use Rattle.entries.specs.Skip.{skip, skip_all, skip_on, skip_stops}
-use Rattle.listing.specs.Merge.{least_of, past, past_all, entry_count, NextIs, next_is_least, spent, all_from_past, wanted, passing_agree, pairs_of_from}
+use Rattle.entries.specs.Ascending.{AllFrom, all_from_lower}
+use Rattle.entries.specs.Skip.{skip_all}
+use Rattle.listing.specs.Merge.{least_of, past_all, entry_count, NextIs, next_is_least, spent, all_from_past, wanted, passing_agree, pairs_of_from}
 use Rattle.listing.proofs.Merge.{held_between_passed}
 use Rattle.listing.specs.Range.{Keeps, skip_all_gone, skip_all_none}
 

@@ -1,29 +1,21 @@
 -- What src/lib.rt reads at spots in four runs is the merge of the entries that come from there on. Assumes nothing.
-use Rattle.std.specs.Prelude.{ℕ, ◌+◌, ◌*◌, ◌/◌, ◌≤◌, ◌<◌, ◌≡◌, refl, Bool, true, false, List, [], ◌∷◌, length, set, leb}
+use Rattle.std.specs.Prelude.{ℕ, ◌+◌, ◌*◌, ◌/◌, ◌<◌, ◌≡◌, Bool, true, false, List, length, set}
 use Rattle.std.proofs.Common.{arith, ap, sym, ◌∙◌}
-use Rattle.std.proofs.Math.Option.{Option, none, some}
-use Rattle.geometry.specs.declared.Geometry.{Geometry}
-use Rattle.geometry.specs.Geometry.{InRange}
+use Rattle.std.proofs.Math.Option.{some}
 use Rattle.slot.specs.declared.Pair.{Pair}
-use Rattle.slot.specs.Pair.{before, same, least}
-use Rattle.rules.specs.Tree.{Entry as Indexed}
-use Rattle.rules.specs.Finding.{find, held}
-use Rattle.rules.specs.Listing.{pairs_with, pairs_of, held_between, list}
+use Rattle.slot.specs.Pair.{before, least}
+use Rattle.rules.specs.Listing.{list}
 use Rattle.rules.specs.Listing.{Listed as Wanted}
-use Rattle.rules.specs.Sound.{tree_of}
-use Rattle.entries.specs.declared.Run.{Run}
-use Rattle.entries.specs.declared.Runs.{Runs}
-use Rattle.entries.specs.declared.Spots.{Spots}
+use Rattle.entries.specs.Four.{Runs}
+use Rattle.entries.specs.Four.{Spots}
 use Rattle.entries.specs.declared.Entry.{Entry}
-use Rattle.entries.specs.Run.{entry, few_in}
-use Rattle.entries.specs.Levels.{AllInside, runs_of, tree_in, by_levels}
+use Rattle.entries.specs.Run.{entry}
+use Rattle.entries.specs.Levels.{AllInside, tree_in}
 use Rattle.entries.specs.Ascending.{levels_ascend, all_from_ascending}
-use Rattle.entries.specs.Skip.{skip, skip_all}
-use Rattle.entries.specs.Spot.{page_at, upcoming, upcomings, from_least, none_left}
-use Rattle.listing.specs.declared.Least.{Least}
-use Rattle.listing.specs.declared.Least.TheVariants.{Of, Empty}
-use Rattle.listing.specs.declared.Listed.{Listed}
-use Rattle.listing.specs.Merge.{lesser, lower, least_of, past, past_here, past_other, past_all, entry_count}
+use Rattle.entries.specs.Skip.{skip_all}
+use Rattle.entries.specs.Spot.{upcomings}
+use Rattle.std.specs.Prelude.{Option as Found, Some, None}
+use Rattle.listing.specs.Merge.{least_of, past_all, entry_count}
 use Rattle.listing.specs.Range.{Keeps}
 use Rattle.listing.proofs.Range.{range_kept}
 use Rattle.listing.specs.Going.{Going, going_begins}
@@ -46,11 +38,11 @@ module _ (w : List ℕ) (rs : Runs) (first second : Pair) (s : Spots) (slice : L
 -- A listing at four spots, of which the least was found: done where there is none or it is past the second pair, else put or passed as the
 -- spots move past its pair.
 module _ (w : List ℕ) (rs : Runs) (second : Pair) (n : ℕ) (s : Spots) (slice : List ℕ) (whole : Wanted) (so : Going second n (upcomings w rs s) slice whole)
-    (r : Least) (is : found r ≡ least_of (upcomings w rs s)) where
-  pub spots_done : r ≡ Empty → n < length slice / 2 → record { pairs = n; mark = 0; words = slice } ≡ whole
+    (r : Found Entry) (is : found r ≡ least_of (upcomings w rs s)) where
+  pub spots_done : r ≡ None → n < length slice / 2 → record { pairs = n; mark = 0; words = slice } ≡ whole
   spots_done x h = going_done second n (upcomings w rs s) slice whole so (sym is ∙ ap found x) h
 
-  module _ (e : Entry) (x : r ≡ Of e) (b : Bool) (test : b ≡ before second e.pair) where
+  module _ (e : Entry) (x : r ≡ Some e) (b : Bool) (test : b ≡ before second e.pair) where
     least_is : least_of (upcomings w rs s) ≡ some (entry e)
     least_is = sym is ∙ ap found x
 

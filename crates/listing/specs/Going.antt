@@ -1,17 +1,16 @@
 -- How far a listing has come, as the loop of src/lib.rt carries it: what the levels ahead still give completes the rules' list.
 -- Assumes nothing.
-use Rattle.std.specs.Prelude.{ℕ, suc, ◌+◌, ◌*◌, ◌/◌, ◌≤◌, ◌<◌, ◌≡◌, Bool, true, false, List, [], length, set}
-use Rattle.std.proofs.Common.{arith, ap, sym, ◌∙◌, length-set}
-use Rattle.std.proofs.Math.Option.{none, some}
+use Rattle.std.specs.Prelude.{ℕ, ◌+◌, ◌/◌, ◌≤◌, ◌≡◌, Bool, false, List, length}
+use Rattle.std.proofs.Common.{arith}
 use Rattle.laws.specs.Tests.{and_true}
 use Rattle.slot.specs.declared.Pair.{Pair}
 use Rattle.slot.specs.Pair.{before, least, least_first}
 use Rattle.slot.specs.Order.{above_not_before}
-use Rattle.rules.specs.Tree.{Entry, Tree, rank_of}
+use Rattle.rules.specs.Tree.{Entry, Tree}
 use Rattle.rules.specs.Listing.{held_between, Listed, list}
-use Rattle.entries.specs.Ascending.{AllFrom, all_from_lower}
-use Rattle.listing.specs.Merge.{least_of, past_all, entry_count, NextIs, next_is_least, all_from_past, wanted}
-use Rattle.listing.specs.Writing.{list_from, list_begins, list_puts, list_full, list_done}
+use Rattle.entries.specs.Ascending.{AllFrom}
+use Rattle.listing.specs.Merge.{entry_count, wanted}
+use Rattle.listing.specs.Writing.{list_from, list_begins}
 
 -- After n pairs a tree is ahead whose held pairs up to the second complete what is to be listed.
 pub record Going (second : Pair) (n : ℕ) (t : Tree) (slice : List ℕ) (whole : Listed) : Type 0 where

@@ -7,13 +7,12 @@ use Rattle.std.proofs.Math.Bool.{Bool, true, false, not}
 use mathlib.Core.List.{List, [], ◌∷◌}
 use Rattle.std.proofs.Math.Option.{Option, none, some}
 use Rattle.laws.specs.Lists.{passing, passing_no}
-use Rattle.laws.specs.Tests.{and_false_right}
 use Rattle.slot.specs.declared.Pair.{Pair}
 use Rattle.slot.specs.Pair.{rank, before, same}
 use Rattle.slot.specs.Order.{before_below, not_before_above, same_level, not_same_apart, below_before, above_not_before, level_same, apart_not_same}
 use Rattle.rules.specs.Tree.{Entry, Level, Tree, rank_of}
 use Rattle.rules.specs.Finding.{find, held}
-use Rattle.rules.specs.Listing.{insert, pairs_with, pairs_of, held_between}
+use Rattle.rules.specs.Listing.{insert, pairs_with, pairs_of}
 use Rattle.entries.specs.Ascending.{From, AllFrom, from_lower_lem, all_from_lower, find_here, find_on, find_above, held_met, held_absent, held_agree}
 
 -- Of two entries the one whose pair comes first; at one pair the upper one's kind counts.

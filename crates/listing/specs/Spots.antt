@@ -1,40 +1,35 @@
 -- What src/lib.rt reads at spots in four runs is the merge of the entries that come from there on. Assumes nothing.
-use Rattle.std.specs.Prelude.{ℕ, ◌+◌, ◌*◌, ◌/◌, ◌≤◌, ◌<◌, ◌≡◌, refl, Bool, true, false, List, [], ◌∷◌, length, set, leb}
+use Rattle.std.specs.Prelude.{ℕ, ◌+◌, ◌≤◌, ◌≡◌, refl, Bool, true, false, List, ◌∷◌, leb}
 use Rattle.std.proofs.Common.{arith, ap, sym, ◌∙◌}
 use Rattle.std.proofs.Math.Option.{Option, none, some}
 use Rattle.geometry.specs.declared.Geometry.{Geometry}
 use Rattle.geometry.specs.Geometry.{InRange}
 use Rattle.slot.specs.declared.Pair.{Pair}
-use Rattle.slot.specs.Pair.{before, same, least}
+use Rattle.slot.specs.Pair.{same, least}
 use Rattle.rules.specs.Tree.{Entry as Indexed}
 use Rattle.rules.specs.Finding.{find, held}
 use Rattle.rules.specs.Listing.{pairs_with, pairs_of, held_between, list}
 use Rattle.rules.specs.Listing.{Listed as Wanted}
 use Rattle.rules.specs.Sound.{tree_of}
 use Rattle.entries.specs.declared.Run.{Run}
-use Rattle.entries.specs.declared.Runs.{Runs}
-use Rattle.entries.specs.declared.Spots.{Spots}
+use Rattle.entries.specs.Four.{Runs}
 use Rattle.entries.specs.declared.Entry.{Entry}
 use Rattle.entries.specs.Run.{entry, few_in}
 use Rattle.entries.specs.Levels.{AllInside, runs_of, tree_in, by_levels}
-use Rattle.entries.specs.Ascending.{levels_ascend, all_from_ascending}
-use Rattle.entries.specs.Skip.{skip, skip_all}
-use Rattle.entries.specs.Spot.{page_at, upcoming, upcomings, from_least, none_left}
-use Rattle.listing.specs.declared.Least.{Least}
-use Rattle.listing.specs.declared.Least.TheVariants.{Of, Empty}
+use Rattle.entries.specs.Skip.{skip}
+use Rattle.entries.specs.Spot.{page_at, upcoming, from_least, none_left}
+use Rattle.std.specs.Prelude.{Option as Found, Some, None}
 use Rattle.listing.specs.declared.Listed.{Listed}
-use Rattle.listing.specs.Merge.{lesser, lower, least_of, past, past_here, past_other, past_all, entry_count}
-use Rattle.listing.specs.Range.{Keeps}
-use Rattle.listing.specs.Going.{Going, going_begins}
+use Rattle.listing.specs.Merge.{lesser, lower, past, past_here, past_other, entry_count}
 
 -- The rules' result, of what the call returned and the slice's words after it.
 abbrev pub told : Listed → List ℕ → Wanted
 told r words = record { pairs = r.pairs; mark = r.mark; words = words }
 
 -- The least entry as the merge has it.
-abbrev pub found : Least → Option Indexed
-found (Of e) = some (entry e)
-found Empty = none
+abbrev pub found : Found Entry → Option Indexed
+found (Some e) = some (entry e)
+found None = none
 
 module _ (w : List ℕ) (run : Run) (spot : ℕ) where
   -- A run that has ended at a spot: the least is that below, and the spot stays.

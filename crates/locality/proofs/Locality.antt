@@ -1,7 +1,7 @@
 -- An ask, and a why, depends on its pair, the store's length, the directory, the head and at most one page in each lower level, and on nothing else. The
 -- stores are of any words. Assumes nothing.
 use Prim.Native.Nat.{ℕ, zero, suc, ◌*◌, ◌≤◌}
-use Rattle.std.specs.Prelude.{◌≡◌, List, [], length}
+use Rattle.std.specs.Prelude.{◌≡◌, List, [], length, Result}
 use Rattle.std.proofs.Math.Path.{refl, ap}
 use Rattle.std.proofs.Common.{sym, ◌∙◌}
 use Rattle.geometry.specs.Geometry.{bottom}
@@ -10,7 +10,8 @@ use Rattle.slot.specs.declared.Pair.{Pair}
 use Rattle.geometry.specs.Directory.{geometry_of}
 use Rattle.walk.specs.Walk.{walked}
 use Rattle.walk.specs.Trail.{walk_lines, pages_below}
-use Rattle.call_ask.specs.declared.Asked.{Asked}
+use Rattle.walk.specs.declared.Found.{Found}
+use Rattle.opening.specs.declared.Refusal.{Refusal}
 use Rattle.opening.specs.Reply.{Reply, by_first}
 use Rattle.opening.specs.Opening.{open_tests, opening, opened_range}
 use Rattle.call_ask.specs.Ask.{ask_reply, walk_reply, ask_of, ask_refused_lem, ask_walked}
@@ -62,7 +63,7 @@ module _ (asked : Pair) (w v : List ℕ) (agree : AgreeFor asked w v) where
   why_local = rw (ask_local, lines_local)
 
   -- So it is with what ask returns, and with the number and values that the C interface gives.
-  pub ask_returns_local : (a b : Asked) → ask_reply a ≡ ask_of w asked → ask_reply b ≡ ask_of v asked → a ≡ b
+  pub ask_returns_local : (a b : Result Found Refusal) → ask_reply a ≡ ask_of w asked → ask_reply b ≡ ask_of v asked → a ≡ b
   ask_returns_local a b p q = ask_has_one_answer w asked a b p (q ∙ sym ask_local)
 
   pub ask_replies_local : (m n : ℕ) (out other : List ℕ) → record { number = m; values = out } ≡ ask_of w asked →

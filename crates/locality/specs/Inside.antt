@@ -1,7 +1,7 @@
 -- The pages that an ask reads lie in the rooms of their levels, and so inside the store. Assumes nothing.
 use Prim.Native.Nat.{ℕ, zero, suc, ◌+◌, ◌≤◌, ◌<◌}
 use Rattle.std.proofs.Common.{arith}
-use Rattle.std.specs.Prelude.{◌≡◌, refl, Bool, true, false, cond, List, [], ◌∷◌, length}
+use Rattle.std.specs.Prelude.{◌≡◌, refl, Bool, true, false, cond, List, [], ◌∷◌, length, Some}
 use Rattle.geometry.specs.declared.Geometry.{Geometry}
 use Rattle.geometry.specs.Geometry.{bottom, room}
 use Rattle.geometry.specs.Places.{page_place, store_words, words_in_page}
@@ -10,10 +10,11 @@ use Rattle.geometry.proofs.Apart.{page_inside}
 use Rattle.slot.specs.declared.Pair.{Pair}
 use Rattle.slot.specs.Slot.{slot_at}
 use Rattle.rules.specs.Sound.{directory_right, head_right, page_formed}
+use Rattle.rules.specs.Faults.{head_slot, page_slot}
 use Rattle.geometry.specs.Directory.{geometry_of, pages_of}
 use Rattle.walk.specs.Stepping.{Step}
 use Rattle.walk.specs.Stepping.{Decided, Follow, Nothing, Broken}
-use Rattle.form.specs.Passes.{fence_up_to}
+use Rattle.form.specs.Passes.{fence_up_to, head_scanned, page_scanned}
 use Rattle.walk.specs.Step.{head_step, page_step, StepWithin}
 use Rattle.walk.specs.Read.{head_broken, head_tells, head_within, page_broken, page_first_broken, page_tells, page_within}
 use Rattle.walk.specs.Trail.{page_line, lines_on, line_pages}
@@ -29,12 +30,20 @@ PagesInside g n i (p ∷ ps) = (p < room g i) × (page_place g i p + words_in_pa
 
 -- A page that a level tells to follow is one that the level below has.
 module _ (g : Geometry) (w : List ℕ) (asked : Pair) where
+  head_flawed : head_right g w ≡ false → (head_scanned g w asked).flaw ≡ Some (head_slot g w)
+  unfolding head_scanned
+  head_flawed e = rw e
+
+  page_flawed : (i p : ℕ) → page_formed g w i p ≡ false → (page_scanned g w asked i p).flaw ≡ Some (page_slot g w i p)
+  unfolding page_scanned
+  page_flawed i p e = rw e
+
   head_follows : StepWithin (pages_of g w 1) (head_step g w asked)
   head_follows = by (head_right g w) refl
     where
       by : (b : Bool) → head_right g w ≡ b → StepWithin (pages_of g w 1) (head_step g w asked)
       by true e = rw (head_tells g w asked e) at (head_within g w asked e)
-      by false e = rw (← (head_broken g w asked refl e)) tt
+      by false e = rw (← (head_broken g w asked refl (head_flawed e))) tt
 
   page_follows : (i p : ℕ) → suc i < g.levels → StepWithin (pages_of g w (suc i)) (page_step g w asked i p)
   page_follows i p above = by (page_formed g w i p) refl (fence_up_to asked (slot_at w (page_place g i p + 1))) refl
@@ -43,7 +52,7 @@ module _ (g : Geometry) (w : List ℕ) (asked : Pair) where
           StepWithin (pages_of g w (suc i)) (page_step g w asked i p)
       by true e true h = rw (page_tells g w asked i p e above h) at (page_within g w asked i p e above h)
       by true e false h = rw (← (page_first_broken g w asked i p e above h)) tt
-      by false e f h = rw (← (page_broken g w asked i p refl e)) tt
+      by false e f h = rw (← (page_broken g w asked i p refl (page_flawed i p e))) tt
 
   -- The pages read from a level on.
   module _ (n : ℕ) (four : g.levels ≤ 4) (exact : n ≡ store_words g) (right : directory_right g w ≡ true) where

@@ -10,7 +10,6 @@ use Rattle.slot.specs.declared.Pair.{Pair}
 use Rattle.geometry.specs.Directory.{geometry_of}
 use Rattle.walk.specs.Walk.{walked}
 use Rattle.walk.specs.Trail.{walk_lines, pages_below}
-use Rattle.call_ask.specs.declared.Asked.{Asked}
 use Rattle.opening.specs.Reply.{Reply, by_first}
 use Rattle.opening.specs.Opening.{open_tests, opening, opened_range}
 use Rattle.call_ask.specs.Ask.{ask_reply, walk_reply, ask_of, ask_refused_lem, ask_walked}

@@ -1,7 +1,7 @@
 -- The walks of two stores that agree on the directory, the head and the pages that one of them reads: they answer the same and leave the same
 -- lines. Assumes nothing.
 use Prim.Native.Nat.{ℕ, zero, suc, ◌*◌, ◌≤◌}
-use Rattle.std.specs.Prelude.{◌≡◌, refl, Bool, true, false, cond}
+use Rattle.std.specs.Prelude.{◌≡◌, refl, Bool, true, false, cond, Err}
 use Rattle.std.proofs.Math.Path.{ap}
 use Rattle.std.proofs.Common.{◌∙◌}
 use mathlib.Core.List.{List, [], ◌∷◌}
@@ -14,8 +14,7 @@ use Rattle.fault.specs.Numbers.{no_place}
 use Rattle.rules.specs.Sound.{directory_right}
 use Rattle.walk.specs.Stepping.{Step}
 use Rattle.walk.specs.Stepping.{Decided, Follow, Nothing, Broken}
-use Rattle.walk.specs.declared.Walked.{Walked}
-use Rattle.walk.specs.declared.Walked.TheVariants.{Fault}
+use Rattle.walk.specs.Walked.{Walked}
 use Rattle.walk.specs.Step.{head_step, page_step}
 use Rattle.walk.specs.Walk.{walk_on, walked}
 use Rattle.walk.specs.Trail.{Line, page_line, lines_on, trail, walk_lines, line_pages}
@@ -58,7 +57,7 @@ module _ (g : Geometry) (w v : List ℕ) (asked : Pair) (four : g.levels ≤ 4) 
       below x = lines_on g x asked (bottom g) 0 (head_step g x asked)
 
       by : (b : Bool) → SamePages g w v 1 (cond b (line_pages (below w)) []) →
-          (cond b (walking w) (Fault (no_place Directory)) ≡ cond b (walking v) (Fault (no_place Directory))) × (cond b (trail g w asked) [] ≡ cond b (trail g v asked) [])
+          (cond b (walking w) (Err (no_place Directory)) ≡ cond b (walking v) (Err (no_place Directory))) × (cond b (trail g w asked) [] ≡ cond b (trail g v asked) [])
       by true same =
           let step = same_head_step w v directory g four head asked in
           let rest = same_walk_on (bottom g) 0 (head_step g w asked) same in (

@@ -19,8 +19,8 @@ ghost use Rattle.merge.specs.Source.{Joinable, source_at};
 use edit::count_entries;
 use entries::{Run, head_run, level_run};
 use geometry::{
-    Geometry, HEAD_COUNT, HEAD_START, PAGE_COUNTS, PAGE_WORDS, Plan, SLOT_WORDS, at_level,
-    level_place, plan_for,
+    Geometry, HEAD_COUNT, HEAD_START, PAGE_COUNTS, PAGE_WORDS, Plan, SLOT_WORDS, Store, at_level,
+    plan_for,
 };
 use slot::Pid;
 use writer::Source;
@@ -93,9 +93,9 @@ fn join_down(store: &mut [u32], work: &mut [u32], g: Geometry, level: u32) -> u3
     ensures words { store.new ≡ filled g (suc level) (joined g level store.old) store.old }
     ensures pages { result ≡ filled_pages g (suc level) (joined g level store.old) store.old }
 {
-    let plan = plan_for(g);
-    let upper = run_at(store, g, plan, level);
-    let lower = run_at(store, g, plan, level + 1);
+    let stored = Store::new(store, g);
+    let upper = run_at(&stored, level);
+    let lower = run_at(&stored, level + 1);
     fill_level(store, work, g, level + 1, upper, lower)
 }
 
@@ -109,10 +109,8 @@ pub fn rebuild_above(store: &mut [u32], work: &mut [u32], g: Geometry, level: u3
     ensures pages { result ≡ rebuilt_pages g level store.old }
 {
     let mut pages = 0;
-    let mut i = level;
-    while 0 < i {
+    for i in (1..=level).rev() {
         pages += rebuild_level(store, work, g, i);
-        i -= 1;
     }
     rebuild_head(store, g, plan_for(g));
     pages
@@ -147,28 +145,21 @@ pub fn fill_level(
     ensures words { store.new ≡ filled g level (join (entries_in store.old upper) (entries_in store.old lower)) store.old }
     ensures pages { result ≡ filled_pages g level (join (entries_in store.old upper) (entries_in store.old lower)) store.old }
 {
-    let plan = plan_for(g);
-    let source = source_over(store, g, plan, level, upper, lower);
+    let source = source_over(&Store::new(store, g), level, upper, lower);
     let slots = writer::write_level(store, work, source);
-    put_level(store, work, g, plan, level, writer::pages_for(slots))
+    let pages = writer::pages_for(slots);
+    put_level(store, work, g, level, pages);
+    pages
 }
 
 // Copies a level's pages from the work area to its room, with its page count.
-fn put_level(
-    store: &mut [u32],
-    work: &[u32],
-    g: Geometry,
-    plan: Plan,
-    level: u32,
-    pages: u32,
-) -> u32
-    requires lent { Lent g plan store.old }
+fn put_level(store: &mut [u32], work: &[u32], g: Geometry, level: u32, pages: u32)
+    requires lent { Lent g (plan_of g) store.old }
     requires work_len { length work.now ≡ work_words g }
     requires le_level { (1 ≤ level) × (level < g.levels) }
-    ensures words { store.new ≡ set (sets store.old (level_start g level) (take (words_in_page * room g level) work.now)) (pages_word level) pages }
-    ensures pages { result ≡ pages }
+    ensures { store.new ≡ set (sets store.old (level_start g level) (take (words_in_page * room g level) work.now)) (pages_word level) pages }
 {
-    let own = level_place(store, g, plan, level);
+    let own = Store::new(store, g).level_place(level);
     words::copy_in(
         store,
         own.start as usize,
@@ -176,22 +167,20 @@ fn put_level(
         PAGE_WORDS * own.room as usize,
     );
     store[PAGE_COUNTS + level as usize] = pages;
-    pages
 }
 
 // What a level is written from: the entries of two runs, over the pages of the level below, of which the bottom has none.
-fn source_over(store: &[u32], g: Geometry, plan: Plan, level: u32, upper: Run, lower: Run) -> Source
-    requires lent { Lent g plan store.now }
-    requires le_level { (1 ≤ level) × (level < g.levels) }
-    ensures { result ≡ source_at g store.now level upper lower }
+fn source_over(store: &Store, level: u32, upper: Run, lower: Run) -> Source
+    requires { (1 ≤ level) × (level < store.now.geometry.levels) }
+    ensures { result ≡ source_at store.now.geometry store.now.words.now level upper lower }
 {
-    let below = level_place(store, g, plan, level + 1);
+    let below = store.level_place(level + 1);
     Source {
         upper,
         lower,
         below_start: below.start,
         below: below.pages,
-        fenced: level + 1 < g.levels,
+        fenced: level + 1 < store.geometry.levels,
     }
 }
 
@@ -205,22 +194,20 @@ fn is_full(store: &[u32], g: Geometry, level: u32) -> bool
     if g.levels <= level + 1 {
         return false;
     }
-    let plan = plan_for(g);
-    let capacities = plan.capacities;
-    let capacity = at_level(capacities, level);
-    capacity <= count_entries(store, run_at(store, g, plan, level))
+    let stored = Store::new(store, g);
+    let capacity = at_level(stored.plan.capacities, level);
+    capacity <= count_entries(store, run_at(&stored, level))
 }
 
 // The run of a level, or of the head.
-fn run_at(store: &[u32], g: Geometry, plan: Plan, level: u32) -> Run
-    requires lent { Lent g plan store.now }
-    requires level_lt_levels { level < g.levels }
-    ensures { result ≡ run_at g store.now level }
+fn run_at(store: &Store, level: u32) -> Run
+    requires { level < store.now.geometry.levels }
+    ensures { result ≡ run_at store.now.geometry store.now.words.now level }
 {
     if level == 0 {
-        return head_run(g, plan);
+        return head_run(store);
     }
-    level_run(store, g, plan, level)
+    level_run(store, level)
 }
 
 // Rebuilds the head: a fence for each page of level 1, and unused slots behind them.
@@ -229,7 +216,12 @@ pub fn rebuild_head(store: &mut [u32], g: Geometry, plan: Plan)
     requires pages_within { PagesWithin g store.old }
     ensures { store.new ≡ head_rebuilt g store.old }
 {
-    let below = level_place(store, g, plan, 1);
+    let stored = Store {
+        words: store,
+        geometry: g,
+        plan,
+    };
+    let below = stored.level_place(1);
     put_fences(store, below.start as usize, below.pages);
     let used = HEAD_START + SLOT_WORDS * below.pages as usize;
     let end = HEAD_START + SLOT_WORDS * plan.head_room as usize;
@@ -244,11 +236,9 @@ fn put_fences(store: &mut [u32], below: usize, pages: u32)
     requires pages_bound_2 { pages ≤ 2000 }
     ensures { store.new ≡ sets store.old head_start (words_of_all (fences (first_pair store.old below) pages)) }
 {
-    let mut p = 0;
-    while p < pages {
+    for p in 0..pages {
         let fence = layout::fence_of(store, below, Pid(p));
         let place = HEAD_START + SLOT_WORDS * p as usize;
         slot::write_slot(store, place, fence);
-        p += 1;
     }
 }

@@ -1,17 +1,18 @@
 -- The tests that come before all others, of any call on a store that is there, and of those that take a work area too. Assumes nothing.
-use Rattle.std.specs.Prelude.{ℕ, suc, ◌≡◌, Bool, true, false, List, [], ◌∷◌, ◌++◌, length, leb, eqb}
-use Rattle.std.proofs.Common.{arith, sym, ◌∙◌, eqb-true, eq-eqb, ne_eqb}
+use Rattle.std.specs.Prelude.{ℕ, suc, ◌≡◌, Bool, true, false, List, [], ◌∷◌, ◌++◌, length, leb, eqb, Result, Ok, Err, IsErrAnd}
+use Rattle.std.proofs.Common.{arith, sym, ap, ◌∙◌, eqb-true, eq-eqb, ne_eqb}
 use Rattle.std.proofs.Math.Path.{refl}
 use Rattle.laws.specs.Lists.{all}
-use Rattle.geometry.specs.declared.Geometry.{Geometry}
 use Rattle.geometry.specs.declared.Plan.{Plan}
+use Rattle.geometry.specs.declared.Store.{Store}
 use Rattle.geometry.specs.Geometry.{in_range, InRange}
 use Rattle.geometry.specs.Bounds.{in_range_lem}
 use Rattle.geometry.specs.Places.{directory_words, store_words, work_words, plan_of}
-use Rattle.geometry.specs.Lent.{Lent, lent}
+use Rattle.geometry.specs.Lent.{Lent}
 use Rattle.geometry.specs.Directory.{geometry_of}
-use Rattle.opening.specs.declared.Opened.{Opened}
-use Rattle.opening.specs.declared.Opened.TheVariants.{Store, Range, Length}
+use Rattle.opening.specs.declared.Unopened.{Unopened}
+use Rattle.opening.specs.declared.Unopened.TheVariants.{Range, Length}
+use Rattle.opening.specs.Refused.{error_told}
 use Rattle.opening.specs.Reply.{Test, test, first_failing, by_first, first_of_both}
 
 -- A stored geometry is read only if the store has 9 words; shorter is 5. Then 1 for its ranges, and 5 for the exact length.
@@ -21,11 +22,11 @@ open_tests w = test (leb directory_words (length w)) 5 ∷ test (in_range (geome
 unfoldable pub opening : List ℕ → ℕ
 opening w = first_failing (open_tests w)
 
--- What opening a store gives: the stored geometry where every test passes, or the number of the first that fails.
-abbrev pub Opens : List ℕ → Opened → Type 0
-Opens w (Store g) = (opening w ≡ 0) × (g ≡ geometry_of w)
-Opens w Range = opening w ≡ 1
-Opens w Length = opening w ≡ 5
+-- What opening a store gives: the words with the stored geometry where every test passes, or the number of the first that fails.
+abbrev pub Opens : List ℕ → Result Store Unopened → Type 0
+Opens w (Ok s) = (opening w ≡ 0) × (s.geometry ≡ geometry_of w) × (s.words.now ≡ w)
+Opens w (Err Range) = opening w ≡ 1
+Opens w (Err Length) = opening w ≡ 5
 
 -- The reply by the first test that fails.
 module _ (w : List ℕ) where
@@ -63,12 +64,13 @@ module _ (w : List ℕ) (opened : opening w ≡ 0) where
   pub opened_length : length w ≡ store_words (geometry_of w)
   opened_length = eqb-true (length w) (store_words (geometry_of w)) opened_tests.1
 
--- So the geometry of a store that is open has a plan, and with it the store is lent.
-pub open_range : (g : Geometry) (w : List ℕ) → Opens w (Store g) → InRange g
-open_range g w o = rw o.1 (opened_range w o.0)
+-- So a store that is open has a geometry in range, and is lent with its plan.
+module _ (s : Store) (w : List ℕ) (o : Opens w (Ok s)) where
+  pub open_range : InRange s.geometry
+  open_range = rw o.1 (opened_range w o.0)
 
-pub open_lent : (g : Geometry) (plan : Plan) (w : List ℕ) → Opens w (Store g) → plan ≡ plan_of g → Lent g plan w
-open_lent g plan w o e = lent g plan w (open_range g w o) e (rw o.1 (opened_length w o.0))
+  pub open_lent : Lent s.geometry s.plan w
+  open_lent = rw o.2 at s.lent
 
 -- With a work area ---------------------------------------------------------------------------------------------------------------------------
 
@@ -79,10 +81,10 @@ both_tests w work = open_tests w ++ test (eqb (length work) (work_words (geometr
 unfoldable pub opening_both : List ℕ → List ℕ → ℕ
 opening_both w work = first_failing (both_tests w work)
 
-abbrev pub OpensBoth : List ℕ → List ℕ → Opened → Type 0
-OpensBoth w work (Store g) = (opening_both w work ≡ 0) × (length work ≡ work_words g) × Opens w (Store g)
-OpensBoth w work Range = opening_both w work ≡ 1
-OpensBoth w work Length = opening_both w work ≡ 5
+abbrev pub OpensBoth : List ℕ → List ℕ → Result Store Unopened → Type 0
+OpensBoth w work (Ok s) = (opening_both w work ≡ 0) × (length work ≡ work_words s.geometry) × Opens w (Ok s)
+OpensBoth w work (Err Range) = opening_both w work ≡ 1
+OpensBoth w work (Err Length) = opening_both w work ≡ 5
 
 -- The store's tests decide first, and then the work area's length.
 module _ (w work : List ℕ) where
@@ -103,15 +105,21 @@ module _ (w work : List ℕ) where
     both_pass q = rw (both_first, e, q, first_failing)
 
   -- By the plan of the store's geometry.
-  module _ (g : Geometry) (plan : Plan) (o : Opens w (Store g)) (planned : plan ≡ plan_of g) where
-    work_words_lem : plan.work_words ≡ work_words (geometry_of w)
+  module _ (s : Store) (o : Opens w (Ok s)) where
+    planned_words : s.plan.work_words ≡ work_words s.geometry
     unfolding plan_of
-    work_words_lem = rw (planned, o.1)
+    planned_words = ap (λ (p : Plan). p.work_words) s.lent.planned
 
-    pub both_wrong : (length work ≡ plan.work_words → ⊥) → opening_both w work ≡ 5
+    work_words_lem : s.plan.work_words ≡ work_words (geometry_of w)
+    work_words_lem = planned_words ∙ ap work_words o.1
+
+    pub both_wrong : (length work ≡ s.plan.work_words → ⊥) → opening_both w work ≡ 5
     both_wrong n = both_short o.0 (ne_eqb (length work) (work_words (geometry_of w)) (λ x. n (x ∙ sym work_words_lem)))
 
-    pub both_open : length work ≡ plan.work_words → OpensBoth w work (Store g)
-    both_open n =
-        let exact : length work ≡ work_words (geometry_of w) = n ∙ work_words_lem in
-        (both_pass o.0 (eq-eqb (length work) (work_words (geometry_of w)) exact), rw o.1 exact, o)
+    pub both_open : length work ≡ s.plan.work_words → OpensBoth w work (Ok s)
+    both_open n = (both_pass o.0 (eq-eqb (length work) (work_words (geometry_of w)) (n ∙ work_words_lem)), n ∙ planned_words, o)
+
+  -- By what the code's steps came to: the words are no store.
+  pub both_unopened : (why : Unopened) (told : Result Store Unopened) → Opens w (Err why) → IsErrAnd told (λ x. x ≡ why) → OpensBoth w work told
+  both_unopened Range told o e = rw (error_told told e) (both_refused 0 o)
+  both_unopened Length told o e = rw (error_told told e) (both_refused 4 o)

@@ -39,6 +39,12 @@ unfoldable pub scanned : Pair → (ℕ → ℕ → Slot → Bool) → Scan → L
 scanned asked right c [] = c
 scanned asked right c (s ∷ ss) = scanned asked right (stepped asked c s (right c.fences c.entries s)) ss
 
+-- A pass by a test that is called: what it found is what a pass by any test that the calls agree with finds.
+abbrev pub Scanned : (Scan → Slot → Bool → Type 0) → List ℕ → ℕ → ℕ → Pair → Scan → Type 0
+Scanned tells w place n asked c =
+    (right : ℕ → ℕ → Slot → Bool) → ((d : Scan) (s : Slot) (b : Bool) → tells d s b → b ≡ right d.fences d.entries s) →
+    c ≡ scanned asked right started (slots_from w place n)
+
 -- After j slots no count is above j.
 pub record Within (j : ℕ) (c : Scan) : Type 0 where
   pub breaking_within : c.breaking ≤ j

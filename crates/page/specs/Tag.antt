@@ -12,17 +12,18 @@ use Rattle.slot.specs.declared.Slot.{Slot}
 use Rattle.rules.specs.Level.{fence_kind}
 use Rattle.rules.specs.Sound.{legal, legal_kind}
 
+-- What a slot of a kind gets, of what a fence gets and what an index entry gets.
+abbrev pub by_kind : {T : Type 0} → Kind → T → T → T
+by_kind Normal fence entry = entry
+by_kind Filter fence entry = entry
+by_kind External fence entry = fence
+by_kind Internal fence entry = fence
+
 abbrev pub pages_named : ℕ → Kind → ℕ
-pages_named below Normal = 1
-pages_named below Filter = 1
-pages_named below External = below
-pages_named below Internal = below
+pages_named below kind = by_kind kind below 1
 
 abbrev pub page_due : ℕ → Kind → ℕ
-page_due fences Normal = 0
-page_due fences Filter = 0
-page_due fences External = fences
-page_due fences Internal = fences
+page_due fences kind = by_kind kind fences 0
 
 abbrev pub internal_kind : Kind → Bool
 internal_kind Normal = false
@@ -31,10 +32,7 @@ internal_kind External = false
 internal_kind Internal = true
 
 abbrev pub room_for : Bool → Bool → Kind → Bool
-room_for fence entry Normal = entry
-room_for fence entry Filter = entry
-room_for fence entry External = fence
-room_for fence entry Internal = fence
+room_for fence entry kind = by_kind kind fence entry
 
 -- Whether a slot of the head is an index entry with page number 0, or the external fence of the next page.
 unfoldable pub in_turn : ℕ → Slot → Bool

@@ -1,5 +1,5 @@
 -- What the clauses of src/lib.rt cite of the last slot at most a pair: its entry, or the fence met stepping back. Assumes nothing.
-use Rattle.std.specs.Prelude.{ℕ, zero, suc, ◌+◌, ◌-◌, ◌*◌, ◌≤◌, ◌≡◌, refl, true, false, cond, List, []}
+use Rattle.std.specs.Prelude.{ℕ, zero, suc, ◌+◌, ◌-◌, ◌*◌, ◌≤◌, ◌≡◌, refl, Bool, true, false, cond, List, Option, Some, None}
 use Rattle.std.proofs.Common.{sub-one, arith, sym}
 use Rattle.slot.specs.declared.Pid.{Pid}
 use Rattle.slot.specs.declared.Pair.{Pair}
@@ -8,8 +8,6 @@ use Rattle.slot.specs.Pair.{same}
 use Rattle.slot.specs.Slot.{slot_at}
 use Rattle.rules.specs.Level.{fence_kind}
 use Rattle.rules.specs.Finding.{normal_kind}
-use Rattle.page.specs.declared.Met.{Met}
-use Rattle.page.specs.declared.Met.TheVariants.{Absent, Entry}
 use Rattle.geometry.specs.Places.{words_in_slot}
 
 -- Stepping back from slot j of the run at a place, the page of the first fence met; the first slot's where there is none.
@@ -18,9 +16,9 @@ fence_back w place zero = (slot_at w (place + words_in_slot * 0)).page
 fence_back w place (suc j) =
     elim (fence_kind (slot_at w (place + words_in_slot * suc j)).kind) [ true ↦ (slot_at w (place + words_in_slot * suc j)).page | false ↦ fence_back w place j ]
 
--- An index entry of just that pair in a slot.
-unfoldable pub met_in : Slot → Pair → Met
-met_in s asked = cond (fence_kind s.kind) Absent (cond (same asked s.pair) (Entry (normal_kind s.kind)) Absent)
+-- Whether an index entry of just that pair in a slot is normal.
+unfoldable pub met_in : Slot → Pair → Option Bool
+met_in s asked = cond (fence_kind s.kind) None (cond (same asked s.pair) (Some (normal_kind s.kind)) None)
 
 -- A fence decides; else the step goes on.
 pub fence_back_here : (w : List ℕ) (place j : ℕ) → fence_kind (slot_at w (place + 3 * j)).kind ≡ true →

@@ -2,11 +2,11 @@
 -- back, and a run with no fences tells nothing. Assumes nothing.
 use Prim.Native.Nat.{ℕ, zero, suc, ◌+◌, ◌*◌, ◌≤◌, ◌<◌}
 use Rattle.std.proofs.Common.{zero-add, arith, sym, ◌∙◌, le-ltb, ltb-true}
-use Rattle.std.specs.Prelude.{◌≡◌, Bool, not, length, get_or, take, ltb}
+use Rattle.std.specs.Prelude.{◌≡◌, Bool, not, length, get_or, take, ltb, Some, None}
 use Rattle.std.proofs.Math.Path.{refl, ap}
 use Rattle.std.proofs.Math.Bool.{true, false}
 use Rattle.std.proofs.lemmas.Bool.{false≢true}
-use mathlib.Core.List.{List, [], ◌∷◌, reverse}
+use mathlib.Core.List.{List, ◌∷◌, reverse}
 use Rattle.laws.specs.Tests.{and_right}
 use Rattle.laws.specs.Lists.{passing, all, length_span, get_d_span, all_at, reverse_take}
 use Rattle.slot.specs.declared.Pair.{Pair}
@@ -18,7 +18,6 @@ use Rattle.slot.specs.Slot.{slot_at}
 use Rattle.rules.specs.Level.{fence_kind}
 use Rattle.rules.specs.Finding.{normal_kind, decided, follow, nothing, at_most, step_back, tell_from, tell}
 use Rattle.rules.specs.Sound.{in_order, legal, legal_kind, slots_from}
-use Rattle.page.specs.declared.Met.TheVariants.{Absent, Entry}
 use Rattle.page.specs.Form.{at_most_first}
 use Rattle.page.specs.Tell.{fence_back, fence_back_here, fence_back_on, met_in}
 
@@ -72,23 +71,23 @@ module _ (w : List ℕ) (place n : ℕ) where
       rw (last_first j h, f, step_back) (step_past inner j (omega arith) e)
 
 -- An entry of just that pair decides; a slot that is none leaves it to the fences.
-tell_entry : (s : Slot) (ss : List Slot) (asked : Pair) (b : Bool) → met_in s asked ≡ Entry b → tell_from asked (s ∷ ss) ≡ decided b
+tell_entry : (s : Slot) (ss : List Slot) (asked : Pair) (b : Bool) → met_in s asked ≡ Some b → tell_from asked (s ∷ ss) ≡ decided b
 unfolding met_in tell_from
 tell_entry s ss asked b e = by_fence (fence_kind s.kind) refl (same asked s.pair) refl
   where
     by_fence : (f : Bool) → fence_kind s.kind ≡ f → (m : Bool) → same asked s.pair ≡ m → tell_from asked (s ∷ ss) ≡ decided b
-    by_fence true p m q = let z : Absent ≡ Entry b = rw p at e in cc
-    by_fence false p true q = let z : Entry (normal_kind s.kind) ≡ Entry b = rw (p, q) at e in rw (p, q, tell_from) (cc)
-    by_fence false p false q = let z : Absent ≡ Entry b = rw (p, q) at e in cc
+    by_fence true p m q = let z : None ≡ Some b = rw p at e in cc
+    by_fence false p true q = let z : Some (normal_kind s.kind) ≡ Some b = rw (p, q) at e in rw (p, q, tell_from) (cc)
+    by_fence false p false q = let z : None ≡ Some b = rw (p, q) at e in cc
 
-tell_absent : (s : Slot) (ss : List Slot) (asked : Pair) → met_in s asked ≡ Absent → tell_from asked (s ∷ ss) ≡ step_back (s ∷ ss)
+tell_absent : (s : Slot) (ss : List Slot) (asked : Pair) → met_in s asked ≡ None → tell_from asked (s ∷ ss) ≡ step_back (s ∷ ss)
 unfolding met_in tell_from
 tell_absent s ss asked e = by_fence (fence_kind s.kind) refl (same asked s.pair) refl
   where
     by_fence : (f : Bool) → fence_kind s.kind ≡ f → (m : Bool) → same asked s.pair ≡ m → tell_from asked (s ∷ ss) ≡ step_back (s ∷ ss)
     by_fence true p true q = rw (p, q, tell_from)
     by_fence true p false q = rw (p, q, tell_from)
-    by_fence false p true q = let z : Entry (normal_kind s.kind) ≡ Absent = rw (p, q) at e in cc
+    by_fence false p true q = let z : Some (normal_kind s.kind) ≡ None = rw (p, q) at e in cc
     by_fence false p false q = rw (p, q, tell_from)
 
 -- What a run in order tells, by the number of its slots at most the pair.
@@ -105,10 +104,10 @@ module _ (w : List ℕ) (place n : ℕ) (asked : Pair) (order : in_order (slots_
   tells_nothing e = tell_from_reach 0 e
 
   module _ (j : ℕ) (fits : j < n) (e : suc j ≡ reached) where
-    pub tells_entry : (b : Bool) → met_in (slot_at w (place + 3 * j)) asked ≡ Entry b → tell asked (slots_from w place n) ≡ decided b
+    pub tells_entry : (b : Bool) → met_in (slot_at w (place + 3 * j)) asked ≡ Some b → tell asked (slots_from w place n) ≡ decided b
     tells_entry b m = tell_from_reach (suc j) e ∙ rw (last_first w place n j fits) (tell_entry _ _ asked b m)
 
-    pub tells_fence : fence_kind (slot_at w place).kind ≡ true → met_in (slot_at w (place + 3 * j)) asked ≡ Absent →
+    pub tells_fence : fence_kind (slot_at w place).kind ≡ true → met_in (slot_at w (place + 3 * j)) asked ≡ None →
         tell asked (slots_from w place n) ≡ follow (fence_back w place j).0
     tells_fence f m =
         let here : place + 3 * 0 ≡ place = omega arith in
@@ -116,7 +115,7 @@ module _ (w : List ℕ) (place n : ℕ) (asked : Pair) (order : in_order (slots_
         rw (last_first w place n j fits)
         (tell_absent _ _ asked m ∙ rw (← last_first w place n j fits) (step_back_lem w place n j fits (rw here f)))
 
-    pub tells_past : (inner : Bool) → all (legal inner 0) (slots_from w place n) ≡ true → met_in (slot_at w (place + 3 * j)) asked ≡ Absent →
+    pub tells_past : (inner : Bool) → all (legal inner 0) (slots_from w place n) ≡ true → met_in (slot_at w (place + 3 * j)) asked ≡ None →
         tell asked (slots_from w place n) ≡ nothing
     tells_past inner l m =
         tell_from_reach (suc j) e ∙

@@ -6,8 +6,10 @@ ghost use Rattle.slot.specs.Slot.{slot_at};
 ghost use Rattle.rules.specs.Level.{fence_kind};
 ghost use Rattle.rules.specs.Finding.{normal_kind};
 ghost use Rattle.rules.specs.Sound.{legal, slots_from};
-ghost use Rattle.page.specs.Scan.{Within, started, stepped, scanned, may_follow};
-ghost use Rattle.page.specs.Tag.{legal_below, in_turn, head_tag, room_for, pages_named, page_due, internal_kind};
+ghost use Rattle.page.specs.Scan.{Within, Scanned, started, stepped, scanned, may_follow};
+ghost use Rattle.page.specs.declared.Scan.{Scan};
+ghost use Rattle.slot.specs.declared.Slot.{Slot};
+ghost use Rattle.page.specs.Tag.{legal_below, in_turn, head_tag, by_kind, internal_kind};
 ghost use Rattle.page.specs.Tell.{fence_back, met_in};
 ghost use Rattle.geometry.specs.Places.{words_in_slot};
 
@@ -30,52 +32,54 @@ pub struct Scan {
     pub reach: u32,
 }
 
-// What the slot at a place says of a pair: no index entry of it, or whether its entry is normal.
+// The `count` slots that stand from a place on.
 #[derive(Clone, Copy)]
-pub enum Met {
-    Absent,
-    Entry(bool),
+pub struct Slots<'a> {
+    pub words: &'a [u32],
+    pub place: usize,
+    pub count: usize,
+    ghost inside: { place + words_in_slot * count ≤ length words.now },
+    ghost few: { count ≤ 4096 },
 }
 
-// A pass over a page: its `count` slots stand from a place on, and its fences may name the first `below` pages of the level below.
-pub fn scan_page(words: &[u32], place: usize, count: usize, asked: Pair, below: u32) -> Scan
-    requires { (place + words_in_slot * count ≤ length words.now) × (count ≤ 4096) }
-    ensures { result ≡ scanned asked (legal_below below) started (slots_from words.now place count) }
+// A pass over a page, whose fences may name the first `below` pages of the level below.
+pub fn scan_page(slots: &Slots, asked: Pair, below: u32) -> Scan
+    ensures { result ≡ scanned asked (legal_below below) started (slots_from slots.now.words.now slots.now.place slots.now.count) }
+{
+    scan_slots(slots, asked, |_, slot| is_legal(slot, below))
+}
+
+// A pass over the head, whose fences name the pages below in turn, and whose index entries are fewer than `head`.
+pub fn scan_head(slots: &Slots, asked: Pair, below: u32, head: u32) -> Scan
+    ensures { result ≡ scanned asked (head_tag below head) started (slots_from slots.now.words.now slots.now.place slots.now.count) }
+{
+    scan_slots(
+        slots,
+        asked,
+        |scan, slot| head_takes(scan, slot, below, head),
+    )
+}
+
+// A pass over slots. `right` tests a slot's tag, by what the pass has found before it.
+fn scan_slots<F: Fn(Scan, Slot) -> bool>(slots: &Slots, asked: Pair, right: F) -> Scan
+    requires { (c : Scan) (s : Slot) → Within 4096 c → F.pre right c s }
+    ensures { Scanned (F.post right) slots.now.words.now slots.now.place slots.now.count asked result }
 {
     let mut scan = scan_start();
-    let mut j = 0;
-    while j < count {
-        let slot = read_slot(words, place + SLOT_WORDS * j);
-        scan = scan_step(scan, slot, asked, is_legal(slot, below));
-        j += 1;
+    for j in 0..slots.count {
+        let slot = read_slot(slots.words, slots.place + SLOT_WORDS * j);
+        scan = scan_step(scan, slot, asked, right(scan, slot));
     }
     scan
 }
 
-// A pass over the head: its `count` slots stand from a place on, its fences name the pages below in turn, and its index entries are fewer
-// than `head`.
-pub fn scan_head(
-    words: &[u32],
-    place: usize,
-    count: usize,
-    asked: Pair,
-    below: u32,
-    head: u32,
-) -> Scan
-    requires { (place + words_in_slot * count ≤ length words.now) × (count ≤ 4096) }
-    ensures { result ≡ scanned asked (head_tag below head) started (slots_from words.now place count) }
+// Whether the head, after what a pass has found, may have a slot: its tag is in turn, and one more of its kind fits.
+fn head_takes(scan: Scan, slot: Slot, below: u32, head: u32) -> bool
+    requires { scan.entries + 1 < 4294967296 }
+    ensures { result ≡ head_tag below head scan.fences scan.entries slot }
 {
-    let mut scan = scan_start();
-    let mut j = 0;
-    while j < count {
-        let slot = read_slot(words, place + SLOT_WORDS * j);
-        let kind = slot.kind;
-        let fits = has_room(kind, scan.fences < below, scan.entries + 1 < head);
-        let right = both(is_in_turn(slot, scan.fences), fits);
-        scan = scan_step(scan, slot, asked, right);
-        j += 1;
-    }
-    scan
+    let fits = by_kind(slot.kind, scan.fences < below, scan.entries + 1 < head);
+    both(is_in_turn(slot, scan.fences), fits)
 }
 
 // A pass over no slots: any slot may follow the least fence.
@@ -98,10 +102,8 @@ fn scan_step(scan: Scan, slot: Slot, asked: Pair, right: bool) -> Scan
     requires { Within 4096 scan }
     ensures { result ≡ stepped asked scan slot right }
 {
-    let pair = slot.pair;
-    let kind = slot.kind;
-    let rank = rank_of(pair);
-    let fence = is_fence(kind);
+    let rank = rank_of(slot.pair);
+    let fence = is_fence(slot.kind);
     let fits = both(may_follow(scan.last, scan.last_fence, rank), right);
     let formed = both(scan.formed, fits);
     Scan {
@@ -111,7 +113,7 @@ fn scan_step(scan: Scan, slot: Slot, asked: Pair, right: bool) -> Scan
         breaking: scan.breaking + one_if(formed),
         fences: scan.fences + one_if(fence),
         entries: scan.entries + one_if(!fence),
-        reach: scan.reach + one_if(!comes_before(asked, pair)),
+        reach: scan.reach + one_if(!comes_before(asked, slot.pair)),
     }
 }
 
@@ -126,87 +128,46 @@ fn may_follow(last: u64, last_fence: bool, rank: u64) -> bool
 fn is_legal(slot: Slot, below: u32) -> bool
     ensures { result ≡ legal true below slot }
 {
-    let kind = slot.kind;
-    let page = slot.page;
-    page.0 < pages_named(kind, below)
-}
-
-// How many pages a slot of this kind may name: those below, or page 0 alone.
-fn pages_named(kind: Kind, below: u32) -> u32
-    ensures { result ≡ pages_named below kind }
-{
-    match kind {
-        Kind::Normal => 1,
-        Kind::Filter => 1,
-        Kind::External => below,
-        Kind::Internal => below,
-    }
+    slot.page.0 < by_kind(slot.kind, below, 1)
 }
 
 // Whether a slot's tag is right in the head: an index entry has page number 0, a fence is external and names the next page.
 fn is_in_turn(slot: Slot, fences: u32) -> bool
     ensures { result ≡ in_turn fences slot }
 {
-    let kind = slot.kind;
-    let page = slot.page;
-    both(page.0 == page_due(kind, fences), !is_internal(kind))
+    let due = by_kind(slot.kind, fences, 0);
+    both(slot.page.0 == due, !is_internal(slot.kind))
 }
 
-// Whether the head may have one more slot of this kind: one more fence, or one more index entry.
-fn has_room(kind: Kind, fence: bool, entry: bool) -> bool
-    ensures { result ≡ room_for fence entry kind }
+// What a slot of this kind gets, of what a fence gets and what an index entry gets.
+fn by_kind<T: Copy>(kind: Kind, fence: T, entry: T) -> T
+    ensures { result ≡ by_kind kind fence entry }
 {
     match kind {
-        Kind::Normal => entry,
-        Kind::Filter => entry,
-        Kind::External => fence,
-        Kind::Internal => fence,
-    }
-}
-
-// The page that a slot of this kind names in the head, after `fences` fences.
-fn page_due(kind: Kind, fences: u32) -> u32
-    ensures { result ≡ page_due fences kind }
-{
-    match kind {
-        Kind::Normal => 0,
-        Kind::Filter => 0,
-        Kind::External => fences,
-        Kind::Internal => fences,
+        Kind::Normal | Kind::Filter => entry,
+        Kind::External | Kind::Internal => fence,
     }
 }
 
 fn is_internal(kind: Kind) -> bool
     ensures { result ≡ internal_kind kind }
 {
-    match kind {
-        Kind::Normal => false,
-        Kind::Filter => false,
-        Kind::External => false,
-        Kind::Internal => true,
-    }
+    matches!(kind, Kind::Internal)
 }
 
 pub fn is_fence(kind: Kind) -> bool
     ensures { result ≡ fence_kind kind }
 {
     match kind {
-        Kind::Normal => false,
-        Kind::Filter => false,
-        Kind::External => true,
-        Kind::Internal => true,
+        Kind::Normal | Kind::Filter => false,
+        Kind::External | Kind::Internal => true,
     }
 }
 
 pub fn is_normal(kind: Kind) -> bool
     ensures { result ≡ normal_kind kind }
 {
-    match kind {
-        Kind::Normal => true,
-        Kind::Filter => false,
-        Kind::External => false,
-        Kind::Internal => false,
-    }
+    matches!(kind, Kind::Normal)
 }
 
 // Steps back from a slot of the run at a place, and gives the page of the first fence that it meets. The first slot of the run is a fence.
@@ -218,8 +179,7 @@ pub fn fence_back(words: &[u32], place: usize, from: SlotNo) -> Pid
     let mut j = from.0 as usize;
     let page = loop {
         let slot = read_slot(words, place + SLOT_WORDS * j);
-        let kind = slot.kind;
-        if is_fence(kind) {
+        if is_fence(slot.kind) {
             break slot.page;
         }
         j -= 1;
@@ -227,19 +187,11 @@ pub fn fence_back(words: &[u32], place: usize, from: SlotNo) -> Pid
     page
 }
 
-// What the slot at a place says of a pair.
-pub fn met_at(words: &[u32], place: usize, asked: Pair) -> Met
+// What the slot at a place says of a pair: no index entry of it, or whether its entry is normal.
+pub fn met_at(words: &[u32], place: usize, asked: Pair) -> Option<bool>
     requires { place + words_in_slot ≤ length words.now }
     ensures { result ≡ met_in (slot_at words.now place) asked }
 {
     let slot = read_slot(words, place);
-    let pair = slot.pair;
-    let kind = slot.kind;
-    if is_fence(kind) {
-        return Met::Absent;
-    }
-    if !same_pair(asked, pair) {
-        return Met::Absent;
-    }
-    Met::Entry(is_normal(kind))
+    both(!is_fence(slot.kind), same_pair(asked, slot.pair)).then_some(is_normal(slot.kind))
 }

@@ -4,3 +4,4 @@ pub mod Decimal
 pub mod Printed
 pub mod Digits
 pub mod Line
+pub mod Grown

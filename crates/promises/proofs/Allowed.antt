@@ -1,29 +1,22 @@
 -- Condition 3 on the rules: over any requests from a formatted store the pages written in all are at most those allowed to the number of
 -- accepted ones. Assumes nothing.
-use Prim.Native.Nat.{ℕ, zero, suc, ◌+◌, ◌*◌, ◌/◌, ◌≤◌}
-use Rattle.std.proofs.Math.Nat.{add-mul, mul-le-mul_right}
+use Prim.Native.Nat.{suc, ◌+◌, ◌/◌, ◌≤◌}
 use native.Mathlib.Omega.{arith}
-use Rattle.std.specs.Prelude.{◌≡◌, Bool}
+use Rattle.std.specs.Prelude.{◌≡◌}
 use Rattle.std.proofs.Math.Path.{refl}
-use Rattle.std.proofs.Common.{ap, ◌∙◌, length-append}
-use Rattle.std.proofs.Math.Bool.{true, false}
 use mathlib.Core.List.{List, [], ◌∷◌}
 use Rattle.std.proofs.Math.ListN.{length}
-use Rattle.std.proofs.Math.Dec.{eqb}
-use borrow.Author.Tests.{eqb-true, eqb-false}
-use Rattle.laws.specs.Lists.{concat, passing}
+use Rattle.laws.specs.Lists.{passing}
 use Rattle.geometry.specs.declared.Geometry.{Geometry}
 use Rattle.geometry.specs.Geometry.{InRange, bottom, capacity}
-use Rattle.geometry.specs.Places.{room_before}
 use Rattle.rules.specs.Merging.{edit, State, formatted, Outcome, refused}
 use Rattle.rules.specs.Good.{Good}
 use Rattle.rules.specs.Requests.{Request, step, run, accepted, writes, RequestsFit}
-use Rattle.rules.specs.Allowance.{allowed_to, allowed}
+use Rattle.rules.specs.Allowance.{allowed}
 use Rattle.good.specs.Format.{formatted_good}
 use Rattle.promises.specs.Calls.{ComesTo, refusal, edited, step_comes, step_good, refused_counts, done_counts}
-use Rattle.promises.specs.Ledger.{once, merges_into, once_some}
+use Rattle.promises.specs.Ledger.{once, merges_into}
 use Rattle.promises.proofs.Ledger.{merges_few}
-use Rattle.promises.specs.Pages.{cascade_room}
 use Rattle.promises.proofs.Pages.{step_pages, step_deepest}
 use Rattle.promises.specs.Allowed.{allowed_room, both_lots, cascade_once, merge_room, more_levels, more_merges, reported, reported_writes}
 

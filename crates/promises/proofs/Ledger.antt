@@ -2,10 +2,9 @@
 -- requests brought. Assumes nothing.
 use Rattle.std.specs.Prelude.{ℕ, suc, ◌+◌, ◌*◌, ◌/◌, ◌≤◌, ◌≡◌, refl, Bool, true, false, cond, length, leb}
 use Rattle.std.proofs.Math.Nat.{add-mul}
-use Rattle.std.proofs.Common.{le-div_iff_mul-le, leb-true, le-leb}
+use Rattle.std.proofs.Common.{le-div_iff_mul-le, leb-true}
 use native.Mathlib.Omega.{arith}
 use mathlib.Core.List.{List, [], ◌∷◌}
-use Rattle.std.proofs.lemmas.Bool.{lt-leb}
 use Rattle.geometry.specs.declared.Geometry.{Geometry}
 use Rattle.geometry.specs.Geometry.{InRange, bottom, capacity}
 use Rattle.geometry.specs.Bounds.{capacity_least}

@@ -1,17 +1,14 @@
 -- The pages that a cascade writes: a merge into level i writes at most Pg(1) + … + Pg(i). Assumes nothing.
-use Prim.Native.Nat.{ℕ, zero, suc, ◌+◌, ◌≤◌, ◌<◌}
+use Prim.Native.Nat.{ℕ, zero, suc, ◌+◌, ◌≤◌}
 use native.Mathlib.Omega.{arith}
-use Rattle.std.specs.Prelude.{◌≡◌, Bool, true, false, List, [], length, get_or, ltb}
+use Rattle.std.specs.Prelude.{◌≡◌, Bool, true, false, length, ltb}
 use Rattle.std.proofs.Math.Path.{refl}
 use Rattle.std.proofs.Common.{length-append}
-use Rattle.laws.specs.Lists.{span, length_span}
 use Rattle.geometry.specs.declared.Geometry.{Geometry}
 use Rattle.geometry.specs.Geometry.{InRange, bottom, capacity}
-use Rattle.geometry.specs.Places.{room_before}
-use Rattle.slot.specs.declared.Slot.{Slot}
 use Rattle.rules.specs.Tree.{Tree, level}
-use Rattle.rules.specs.Level.{pages_for, page_of, slots_of}
-use Rattle.rules.specs.Merging.{merge, PageWrite, pages_written, settle, toggle_head, edit, State, Outcome, refused, done}
+use Rattle.rules.specs.Level.{slots_of}
+use Rattle.rules.specs.Merging.{merge, pages_written, settle, toggle_head, edit, State, Outcome, refused, done}
 use Rattle.rules.specs.Good.{Fits, Cascading}
 use Rattle.good.specs.Cascade.{merged_state}
 use Rattle.good.proofs.Cascade.{merged_cascading, cascading_fits}

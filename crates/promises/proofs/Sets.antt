@@ -4,7 +4,7 @@ use Rattle.std.specs.Prelude.{ℕ, ◌≤◌, ◌≡◌, Bool, ◌&&◌, ◌||�
 use Rattle.std.proofs.Common.{arith, ap₂, ◌∙◌, ltb-true}
 use Rattle.std.proofs.Math.Path.{refl, sym, ap}
 use Rattle.std.proofs.Math.Bool.{true, false, not}
-use mathlib.Core.List.{List, [], ◌∷◌, map}
+use mathlib.Core.List.{List, [], ◌∷◌}
 use Rattle.std.proofs.Math.Dec.{ltb}
 use Rattle.geometry.specs.declared.Geometry.{Geometry}
 use Rattle.geometry.specs.Geometry.{InRange, most}
@@ -13,9 +13,8 @@ use Rattle.slot.specs.Pair.{same, Words}
 use Rattle.rules.specs.Finding.{held}
 use Rattle.rules.specs.Merging.{State, formatted, Outcome, refused, done, put, remove}
 use Rattle.rules.specs.Store.{writing}
-use Rattle.rules.specs.Good.{Good}
 use Rattle.rules.specs.Requests.{Request, putting, dropping, step, run, final, pair_in, RequestsFit}
-use Rattle.walk.specs.declared.Walked.TheVariants.{Found}
+use Rattle.walk.specs.Walked.{found}
 use Rattle.walk.specs.Walk.{walked}
 use Rattle.finding.specs.Asked.{decider}
 use Rattle.good.specs.Calls.{put_held, put_full, put_done, remove_missing, remove_done}
@@ -23,7 +22,7 @@ use Rattle.good.proofs.Calls.{put_good, remove_good, put_holds, remove_holds}
 use Rattle.good.specs.Format.{formatted_good, formatted_holds}
 use Rattle.promises.specs.Written.{good_walks}
 use Rattle.promises.specs.Plain.{has, Rises, PairsFit, insert_rises, insert_has, insert_length, insert_fits, without_rises, without_has, without_length, without_fits}
-use Rattle.promises.specs.Answers.{Answered, answer, answers, set_after}
+use Rattle.promises.specs.Answers.{answer, answers, set_after}
 use Rattle.promises.specs.Sets.{Agrees, Holds, plain_replies, replies}
 
 module _ (g : Geometry) (fit : InRange g) where
@@ -126,5 +125,5 @@ module _ (g : Geometry) (fit : InRange g) where
     run_most = omega (arith, run_holds.size, run_holds.good.few)
 
     -- On its writing the walk finds whether a pair is in the set.
-    pub run_asks : (p : Pair) → walked g (writing g reached) p ≡ Found (has p set) (decider p reached.tree)
-    run_asks p = good_walks g reached fit run_holds.good p ∙ ap (λ (b : Bool). Found b (decider p reached.tree)) (run_held p)
+    pub run_asks : (p : Pair) → walked g (writing g reached) p ≡ found (has p set) (decider p reached.tree)
+    run_asks p = good_walks g reached fit run_holds.good p ∙ ap (λ (b : Bool). found b (decider p reached.tree)) (run_held p)

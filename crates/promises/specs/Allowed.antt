@@ -11,17 +11,14 @@ use mathlib.Core.List.{List, [], ◌∷◌}
 use Rattle.std.proofs.Math.ListN.{length}
 use Rattle.std.proofs.Math.Dec.{eqb}
 use borrow.Author.Tests.{eqb-true, eqb-false}
-use Rattle.laws.specs.Lists.{concat, passing}
+use Rattle.laws.specs.Lists.{concat}
 use Rattle.geometry.specs.declared.Geometry.{Geometry}
-use Rattle.geometry.specs.Geometry.{InRange, bottom, capacity}
+use Rattle.geometry.specs.Geometry.{capacity}
 use Rattle.geometry.specs.Places.{room_before}
-use Rattle.rules.specs.Merging.{edit, State, formatted, Outcome, refused}
-use Rattle.rules.specs.Good.{Good}
-use Rattle.rules.specs.Requests.{Request, step, run, accepted, writes, RequestsFit}
-use Rattle.rules.specs.Allowance.{allowed_to, allowed}
-use Rattle.good.specs.Format.{formatted_good}
-use Rattle.promises.specs.Calls.{ComesTo, refusal, edited, step_comes, step_good, refused_counts, done_counts}
-use Rattle.promises.specs.Ledger.{once, merges_into, once_some}
+use Rattle.rules.specs.Merging.{Outcome}
+use Rattle.rules.specs.Requests.{writes}
+use Rattle.rules.specs.Allowance.{allowed_to}
+use Rattle.promises.specs.Ledger.{once, once_some}
 use Rattle.promises.specs.Pages.{cascade_room}
 
 -- The most that m(i) merges of level i on write, for each i below a level, added up.

@@ -1,22 +1,15 @@
 -- The pages that a cascade writes: a merge into level i writes at most Pg(1) + … + Pg(i). Assumes nothing.
 use Prim.Native.Nat.{ℕ, zero, suc, ◌+◌, ◌≤◌, ◌<◌}
 use native.Mathlib.Omega.{arith}
-use Rattle.std.specs.Prelude.{◌≡◌, Bool, true, false, List, [], length, get_or, ltb}
-use Rattle.std.proofs.Math.Path.{refl}
+use Rattle.std.specs.Prelude.{List, [], length, get_or}
 use Rattle.std.proofs.Common.{length-append}
 use Rattle.laws.specs.Lists.{span, length_span}
 use Rattle.geometry.specs.declared.Geometry.{Geometry}
-use Rattle.geometry.specs.Geometry.{InRange, bottom, capacity}
 use Rattle.geometry.specs.Places.{room_before}
 use Rattle.slot.specs.declared.Slot.{Slot}
-use Rattle.rules.specs.Tree.{Tree, level}
-use Rattle.rules.specs.Level.{pages_for, page_of, slots_of}
-use Rattle.rules.specs.Merging.{merge, PageWrite, pages_written, settle, toggle_head, edit, State, Outcome, refused, done}
-use Rattle.rules.specs.Good.{Fits, Cascading}
-use Rattle.good.specs.Cascade.{merged_state}
-use Rattle.good.proofs.Cascade.{merged_cascading, cascading_fits}
-use Rattle.good.specs.Settle.{settle_stays, settle_sinks, settle_deepest}
-use Rattle.promises.specs.Calls.{ComesTo, refusal, edited}
+use Rattle.rules.specs.Level.{pages_for, page_of}
+use Rattle.rules.specs.Merging.{PageWrite, pages_written}
+use Rattle.rules.specs.Good.{Fits}
 
 -- The most that merges into levels 1 to i write, one into each.
 unfoldable pub cascade_room : Geometry → ℕ → ℕ

@@ -1,29 +1,14 @@
 -- Condition 2 on the rules: after any requests from a formatted store the pairs held are those of the plain set after the same requests,
 -- live is its size, and the replies are the same. Assumes nothing.
-use Rattle.std.specs.Prelude.{ℕ, ◌≤◌, ◌≡◌, Bool, ◌&&◌, ◌||◌, length}
-use Rattle.std.proofs.Common.{arith, ap₂, ◌∙◌, ltb-true}
-use Rattle.std.proofs.Math.Path.{refl, sym, ap}
-use Rattle.std.proofs.Math.Bool.{true, false, not}
-use mathlib.Core.List.{List, [], ◌∷◌, map}
-use Rattle.std.proofs.Math.Dec.{ltb}
+use Rattle.std.specs.Prelude.{ℕ, ◌≡◌, length}
+use mathlib.Core.List.{List, map}
 use Rattle.geometry.specs.declared.Geometry.{Geometry}
-use Rattle.geometry.specs.Geometry.{InRange, most}
 use Rattle.slot.specs.declared.Pair.{Pair}
-use Rattle.slot.specs.Pair.{same, Words}
 use Rattle.rules.specs.Finding.{held}
-use Rattle.rules.specs.Merging.{State, formatted, Outcome, refused, done, put, remove}
-use Rattle.rules.specs.Store.{writing}
+use Rattle.rules.specs.Merging.{State, Outcome}
 use Rattle.rules.specs.Good.{Good}
-use Rattle.rules.specs.Requests.{Request, putting, dropping, step, run, final, pair_in, RequestsFit}
-use Rattle.walk.specs.declared.Walked.TheVariants.{Found}
-use Rattle.walk.specs.Walk.{walked}
-use Rattle.finding.specs.Asked.{decider}
-use Rattle.good.specs.Calls.{put_held, put_full, put_done, remove_missing, remove_done}
-use Rattle.good.proofs.Calls.{put_good, remove_good, put_holds, remove_holds}
-use Rattle.good.specs.Format.{formatted_good, formatted_holds}
-use Rattle.promises.specs.Written.{good_walks}
-use Rattle.promises.specs.Plain.{has, Rises, PairsFit, insert_rises, insert_has, insert_length, insert_fits, without_rises, without_has, without_length, without_fits}
-use Rattle.promises.specs.Answers.{Answered, answer, answers, set_after}
+use Rattle.promises.specs.Plain.{has, Rises, PairsFit}
+use Rattle.promises.specs.Answers.{Answered}
 
 -- A good state that holds the pairs of a set.
 pub record Holds (g : Geometry) (s : State) (set : List Pair) : Type 0 where

@@ -9,13 +9,13 @@ use Rattle.rules.specs.Level.{slots_of}
 use Rattle.rules.specs.Finding.{held}
 use Rattle.rules.specs.Merging.{State}
 use Rattle.rules.specs.Store.{writing}
-use Rattle.fault.specs.declared.Judged.TheVariants.{Sound}
+use Rattle.std.specs.Prelude.{Ok}
 use Rattle.rules.specs.Sound.{tree_of}
 use Rattle.rules.specs.Faults.{fault}
 use Rattle.geometry.specs.Directory.{geometry_of}
 use Rattle.rules.specs.Good.{Good, Fits}
 use Rattle.rules.specs.Reading.{Reads}
-use Rattle.walk.specs.declared.Walked.TheVariants.{Found}
+use Rattle.walk.specs.Walked.{found}
 use Rattle.walk.specs.Walk.{walked}
 use Rattle.stored.specs.Fitting.{WordsFit}
 use Rattle.stored.specs.Reading.{reads_back}
@@ -27,7 +27,7 @@ use Rattle.finding.specs.Walked.{walked_finds}
 use Rattle.good.proofs.Cascade.{good_fits}
 
 -- A store that passes is the writing of the state that its words hold, and that state is good.
-pub sound_good : (g : Geometry) (w : List ℕ) → InRange g → geometry_of w ≡ g → length w ≡ store_words g → WordsFit w → fault g w ≡ Sound →
+pub sound_good : (g : Geometry) (w : List ℕ) → InRange g → geometry_of w ≡ g → length w ≡ store_words g → WordsFit w → fault g w ≡ Ok tt →
     (w ≡ writing g (state_of g w)) × Good g (state_of g w)
 sound_good = sound_written
 
@@ -56,11 +56,11 @@ module _ (g : Geometry) (s : State) (fit : InRange g) (good : Good g s) where
   good_state = λ i. record { live = good_reads.live_pairs i; tree = good_tree i }
 
   -- It passes the whole-store test.
-  pub good_sound : fault g (writing g s) ≡ Sound
+  pub good_sound : fault g (writing g s) ≡ Ok tt
   good_sound =
       (written_sound g s fit good fits (directory_right_lem g s (writing g s) fit good fits good_reads)
       (head_right_lem g s (writing g s) fit good fits good_reads) (page_formed_lem g s (writing g s) fit good fits good_reads)).0
 
   -- The walk on it finds what the tree holds, and the level of the topmost entry.
-  pub good_walks : (p : Pair) → walked g (writing g s) p ≡ Found (held p s.tree) (decider p s.tree)
+  pub good_walks : (p : Pair) → walked g (writing g s) p ≡ found (held p s.tree) (decider p s.tree)
   good_walks = walked_finds g s (writing g s) fit good fits good_reads

@@ -1,5 +1,5 @@
 -- From what the calls of a function told to what the function tells: the first three lines, the requests one after another, the sheet. Assumes nothing.
-use Rattle.std.specs.Prelude.{ℕ, ◌+◌, ◌≤◌, ◌<◌, ◌≡◌, Bool, true, false, cond, length, leb}
+use Rattle.std.specs.Prelude.{ℕ, ◌+◌, ◌≤◌, ◌<◌, ◌≡◌, Bool, true, false, cond, length, leb, Some, None, Ok, Err}
 use Rattle.std.proofs.Common.{arith, ◌∙◌, drop_of_length-le}
 use Rattle.std.proofs.Math.Path.{refl, ap}
 use mathlib.Core.List.{List, [], ◌∷◌}
@@ -9,15 +9,11 @@ use Rattle.laws.specs.Tests.{and_left, and_right}
 use Rattle.geometry.specs.declared.Geometry.{Geometry}
 use Rattle.geometry.specs.Geometry.{between, InRange}
 use Rattle.geometry.specs.Places.{store_words}
-use Rattle.lines.specs.declared.Value.TheVariants.{Number, Faulty}
 use Rattle.lines.specs.Lines.{lines_of, first_among, rest_of}
 use Rattle.lines.specs.Number.{value}
 use Rattle.lines.specs.Judged.{Judged, faulty}
 use Rattle.lines.specs.Told.{ahead, ReadAs}
 use Rattle.reading.specs.declared.Request.{Request}
-use Rattle.reading.specs.declared.Group.TheVariants.{Faulty as FaultyGroup}
-use Rattle.reading.specs.declared.Requests.TheVariants.{Faulty as FaultyRequests, Good as GoodRequests}
-use Rattle.reading.specs.declared.Judgement.TheVariants.{Faulty as FaultySheet}
 use Rattle.reading.specs.Sheet.{head_name, ratio_name, levels_name, inside, ranged, sheet_for, joined, heading, requests_from, judged_lines, judged, most_bytes, most_words}
 use Rattle.reading.specs.Told.{Requested, GroupAs, Faultless, RequestsAs, Headed, GeometryAs, Ready, Judges}
 
@@ -46,18 +42,18 @@ module _ (w : List ℕ) where
   unfolding judged_lines
   heads = refl
 
-  pub headless : ReadAs w 0 5 (ranged 1 64 head_name) Faulty → GeometryAs w (FaultySheet 1)
+  pub headless : ReadAs w 0 5 (ranged 1 64 head_name) None → GeometryAs w (Err 1)
   headless e = heads ∙ rw e
 
-  module _ (head ratio-at : ℕ) (p : ReadAs w 0 5 (ranged 1 64 head_name) (Number head ratio-at)) where
-    pub ratioless : ReadAs w ratio-at 6 (ranged 2 8 ratio_name) Faulty → GeometryAs w (FaultySheet 2)
+  module _ (head ratio-at : ℕ) (p : ReadAs w 0 5 (ranged 1 64 head_name) (Some (head, ratio-at))) where
+    pub ratioless : ReadAs w ratio-at 6 (ranged 2 8 ratio_name) None → GeometryAs w (Err 2)
     ratioless e = heads ∙ rw (p.0, p.1.follows, e)
 
-    module _ (ratio levels-at : ℕ) (q : ReadAs w ratio-at 6 (ranged 2 8 ratio_name) (Number ratio levels-at)) where
-      pub levelless : ReadAs w levels-at 7 (ranged 2 4 levels_name) Faulty → GeometryAs w (FaultySheet 3)
+    module _ (ratio levels-at : ℕ) (q : ReadAs w ratio-at 6 (ranged 2 8 ratio_name) (Some (ratio, levels-at))) where
+      pub levelless : ReadAs w levels-at 7 (ranged 2 4 levels_name) None → GeometryAs w (Err 3)
       levelless e = heads ∙ rw (p.0, p.1.follows, q.0, q.1.follows, e)
 
-      module _ (levels next : ℕ) (r : ReadAs w levels-at 7 (ranged 2 4 levels_name) (Number levels next)) where
+      module _ (levels next : ℕ) (r : ReadAs w levels-at 7 (ranged 2 4 levels_name) (Some (levels, next))) where
         abbrev read : Geometry
         read = record { head = head; ratio = ratio; levels = levels }
 
@@ -74,7 +70,7 @@ module _ (w : List ℕ) where
           levels_most = inside_most 2 4 (value levels_name (first_among (ahead w levels-at))) levels r.0;
         }
 
-        pub too_long : most_words < store_words read → GeometryAs w (FaultySheet 3)
+        pub too_long : most_words < store_words read → GeometryAs w (Err 3)
         too_long h = all_read ∙ rw (lt-leb (store_words read) most_words h, heading)
 
         pub headed : store_words read ≤ most_words → Headed w read next
@@ -87,7 +83,7 @@ module _ (w : List ℕ) where
 
 -- The whole sheet.
 module _ (w : List ℕ) where
-  pub too_much : most_bytes < length w → Judges w (FaultySheet 0)
+  pub too_much : most_bytes < length w → Judges w (Err 0)
   unfolding judged
   too_much h = rw (lt-leb (length w) most_bytes h, judged)
 
@@ -96,14 +92,14 @@ module _ (w : List ℕ) where
     unfolding judged
     by_lines = rw (le-leb (length w) most_bytes few, judged)
 
-    pub faulty_heading : (n : ℕ) → GeometryAs w (FaultySheet n) → Judges w (FaultySheet n)
+    pub faulty_heading : (n : ℕ) → GeometryAs w (Err n) → Judges w (Err n)
     faulty_heading n e = by_lines ∙ e
 
     module _ (g : Geometry) (at : ℕ) (h : Headed w g at) where
-      pub faulty_request : (n : ℕ) → RequestsAs w at (FaultyRequests n) → Judges w (FaultySheet n)
+      pub faulty_request : (n : ℕ) → RequestsAs w at (Err n) → Judges w (Err n)
       faulty_request n e = by_lines ∙ h.sheet ∙ ap (sheet_for g) e
 
-      pub ready : RequestsAs w at GoodRequests → Ready w g at
+      pub ready : RequestsAs w at (Ok tt) → Ready w g at
       ready f = record {
         requests = f.requests;
         sheet = by_lines ∙ h.sheet ∙ ap (sheet_for g) f.are;
@@ -133,7 +129,7 @@ module _ (w : List ℕ) (start : ℕ) where
   judge_begins h = record { leads = record { faults = λ n e. e; fine = λ f. f }; few = omega arith; within = h }
 
   module _ (at line : ℕ) (j : Judging at line) where
-    pub judge_faulty : (k : ℕ) → GroupAs w at (FaultyGroup k) → RequestsAs w start (FaultyRequests (line + k))
+    pub judge_faulty : (k : ℕ) → GroupAs w at (Err k) → RequestsAs w start (Err (line + k))
     judge_faulty k e = j.leads.faults (line + k) (e.1 line)
 
     pub judge_goes_on : (r : Request) (next : ℕ) → Requested w at r next → Judging next (line + 3)
@@ -146,6 +142,6 @@ module _ (w : List ℕ) (start : ℕ) where
       within = q.within;
     }
 
-    pub judge_ends : length w ≤ at → RequestsAs w start GoodRequests
+    pub judge_ends : length w ≤ at → RequestsAs w start (Ok tt)
     unfolding requests_from lines_of
     judge_ends h = j.leads.fine (record { requests = []; are = ap (λ (l : List ℕ). requests_from line (lines_of l)) (drop_of_length-le w h) })

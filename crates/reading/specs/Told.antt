@@ -1,5 +1,5 @@
 -- What the answers of src/lib.rt tell of the lines from a place of the input on. Assumes nothing.
-use Rattle.std.specs.Prelude.{ℕ, ◌+◌, ◌≤◌, ◌<◌, ◌≡◌, List, length}
+use Rattle.std.specs.Prelude.{ℕ, ◌+◌, ◌≤◌, ◌<◌, ◌≡◌, List, length, Option, Some, None, Result, Ok, Err, ⊤}
 use Rattle.std.proofs.Math.Option.{some, none}
 use Rattle.geometry.specs.declared.Geometry.{Geometry}
 use Rattle.geometry.specs.Geometry.{InRange}
@@ -8,20 +8,19 @@ use Rattle.lines.specs.Lines.{lines_of, first_among}
 use Rattle.lines.specs.Judged.{Judged, faulty, good}
 use Rattle.lines.specs.Told.{ahead, Onward}
 use Rattle.reading.specs.declared.Request.{Request}
-use Rattle.reading.specs.declared.Named.{Named}
-use Rattle.reading.specs.declared.Named.TheVariants.{Known, Unknown}
+use Rattle.reading.specs.declared.Operation.{Operation}
 use Rattle.reading.specs.declared.Group.{Group}
-use Rattle.reading.specs.declared.Group.TheVariants.{Read, Faulty as FaultyGroup}
-use Rattle.reading.specs.declared.Requests.{Requests}
-use Rattle.reading.specs.declared.Requests.TheVariants.{Faulty as FaultyRequests, Good as GoodRequests}
-use Rattle.reading.specs.declared.Judgement.{Judgement}
-use Rattle.reading.specs.declared.Judgement.TheVariants.{Faulty as FaultySheet, Good as GoodSheet}
+use Rattle.reading.specs.declared.Heading.{Heading}
 use Rattle.reading.specs.Sheet.{sheet_for, joined, operation, requests_from, judged_lines, judged, most_bytes, most_words}
 
--- An operation that a line names, or that it names none.
-abbrev pub NamedAs : List ℕ → ℕ → Named → Type 0
-NamedAs w at (Known op next) = (operation (first_among (ahead w at)) ≡ some op) × Onward w at 6 next
-NamedAs w at Unknown = operation (first_among (ahead w at)) ≡ none
+-- An operation that the bytes of a line or a line name, or that they name none. No name is shorter than `op=put`.
+abbrev pub OperationAs : List ℕ → Option Operation → Type 0
+OperationAs l (Some op) = (operation (some l) ≡ some op) × (6 ≤ length l)
+OperationAs l None = operation (some l) ≡ none
+
+abbrev pub NamedAs : List ℕ → ℕ → Option (Operation × ℕ) → Type 0
+NamedAs w at (Some (op, next)) = (operation (first_among (ahead w at)) ≡ some op) × Onward w at 6 next
+NamedAs w at None = operation (first_among (ahead w at)) ≡ none
 
 -- A group was read as a request, which stands before those of the groups behind it; or its first faulty line is told.
 pub record Requested (w : List ℕ) (at : ℕ) (r : Request) (next : ℕ) : Type 0 where
@@ -29,18 +28,18 @@ pub record Requested (w : List ℕ) (at : ℕ) (r : Request) (next : ℕ) : Type
   pub passes : at + 20 < next
   pub within : next ≤ length w
 
-abbrev pub GroupAs : List ℕ → ℕ → Group → Type 0
-GroupAs w at (Read r next) = Requested w at r next
-GroupAs w at (FaultyGroup k) = (k ≤ 2) × ((n : ℕ) → requests_from n (ahead w at) ≡ faulty (n + k))
+abbrev pub GroupAs : List ℕ → ℕ → Result Group ℕ → Type 0
+GroupAs w at (Ok g) = Requested w at g.request g.next
+GroupAs w at (Err k) = (k ≤ 2) × ((n : ℕ) → requests_from n (ahead w at) ≡ faulty (n + k))
 
 -- The requests from a place on are all without fault, or the first faulty line is told.
 pub record Faultless (judgement : Judged (List Request)) : Type 0 where
   pub requests : List Request
   pub are : judgement ≡ good requests
 
-abbrev pub RequestsAs : List ℕ → ℕ → Requests → Type 0
-RequestsAs w at (FaultyRequests n) = requests_from 4 (ahead w at) ≡ faulty n
-RequestsAs w at GoodRequests = Faultless (requests_from 4 (ahead w at))
+abbrev pub RequestsAs : List ℕ → ℕ → Result ⊤ ℕ → Type 0
+RequestsAs w at (Err n) = requests_from 4 (ahead w at) ≡ faulty n
+RequestsAs w at (Ok _) = Faultless (requests_from 4 (ahead w at))
 
 -- The first three lines' geometry, in its ranges and with a store that is not too long, or the first faulty line.
 pub record Headed (w : List ℕ) (g : Geometry) (at : ℕ) : Type 0 where
@@ -49,9 +48,9 @@ pub record Headed (w : List ℕ) (g : Geometry) (at : ℕ) : Type 0 where
   pub short : store_words g ≤ most_words
   pub within : at ≤ length w
 
-abbrev pub GeometryAs : List ℕ → Judgement → Type 0
-GeometryAs w (GoodSheet g at) = Headed w g at
-GeometryAs w (FaultySheet n) = judged_lines (lines_of w) ≡ faulty n
+abbrev pub GeometryAs : List ℕ → Result Heading ℕ → Type 0
+GeometryAs w (Ok h) = Headed w h.geometry h.next
+GeometryAs w (Err n) = judged_lines (lines_of w) ≡ faulty n
 
 -- A sheet without fault, with its requests from a place on; or its first faulty line.
 pub record Ready (w : List ℕ) (g : Geometry) (at : ℕ) : Type 0 where
@@ -63,6 +62,6 @@ pub record Ready (w : List ℕ) (g : Geometry) (at : ℕ) : Type 0 where
   pub within : at ≤ length w
   pub few : length w ≤ most_bytes
 
-abbrev pub Judges : List ℕ → Judgement → Type 0
-Judges w (GoodSheet g at) = Ready w g at
-Judges w (FaultySheet n) = judged w ≡ faulty n
+abbrev pub Judges : List ℕ → Result Heading ℕ → Type 0
+Judges w (Ok h) = Ready w h.geometry h.next
+Judges w (Err n) = judged w ≡ faulty n

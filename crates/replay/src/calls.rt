@@ -1,10 +1,9 @@
 // The calls of a script: each is made on what is lent, and its line printed.
 ghost use Rattle.std.specs.Prelude.{◌≤◌, ◌≡◌, length};
 
-use crate::least;
 use crate::lines::{end_line, print_changes, print_reply, print_words};
 use geometry::Geometry;
-use index::{EditReply, ask_reply, check_reply, edit_reply, format_reply, list_reply};
+use index::{ask_reply, check_reply, edit_reply, format_reply, list_reply};
 use slot::Pair;
 use std::io;
 
@@ -13,8 +12,7 @@ const MOST_WORDS: usize = 4096;
 
 pub fn ask_line(rt: &impl Print, store: &[u32], pair: Pair) -> io::Result<()> {
     let reply = ask_reply(index::ask(store, pair));
-    let values = reply.values;
-    print_reply(rt, reply.number, &values)?;
+    print_reply(rt, reply.number, &reply.values)?;
     end_line(rt)
 }
 
@@ -28,8 +26,7 @@ pub fn why_line(rt: &impl Print, store: &[u32], pair: Pair) -> io::Result<()> {
 
 pub fn check_line(rt: &impl Print, store: &[u32]) -> io::Result<()> {
     let reply = check_reply(index::check(store));
-    let values = reply.values;
-    print_reply(rt, reply.number, &values)?;
+    print_reply(rt, reply.number, &reply.values)?;
     end_line(rt)
 }
 
@@ -42,8 +39,8 @@ pub fn list_line(
     words: u32,
 ) -> io::Result<()> {
     let mut room = numbered(1000);
-    let n = least(words as usize, MOST_WORDS);
-    list_into(rt, store, first, second, &mut room[0..n])
+    let n = MOST_WORDS.min(words as usize);
+    list_into(rt, store, first, second, &mut room[..n])
 }
 
 fn list_into(
@@ -54,8 +51,7 @@ fn list_into(
     slice: &mut [u32],
 ) -> io::Result<()> {
     let reply = list_reply(index::list(store, first, second, slice));
-    let values = reply.values;
-    print_reply(rt, reply.number, &values)?;
+    print_reply(rt, reply.number, &reply.values)?;
     print_words(rt, slice)?;
     end_line(rt)
 }
@@ -69,8 +65,8 @@ pub fn edit_line(
     words: u32,
 ) -> io::Result<()> {
     let mut room = numbered(0);
-    let n = least(words as usize, MOST_WORDS);
-    edit_with(rt, store, &mut room[0..n], put, pair)
+    let n = MOST_WORDS.min(words as usize);
+    edit_with(rt, store, &mut room[..n], put, pair)
 }
 
 fn edit_with(
@@ -82,21 +78,18 @@ fn edit_with(
 ) -> io::Result<()> {
     let before = copied(store);
     let fresh = copied(work);
-    let reply = edit(store, work, put, pair);
-    let values = reply.values;
-    print_reply(rt, reply.number, &values)?;
+    let changed = if put {
+        index::put(store, work, pair)
+    } else {
+        index::drop(store, work, pair)
+    };
+    let reply = edit_reply(changed);
+    print_reply(rt, reply.number, &reply.values)?;
     print!(rt; " store")?;
     print_changes(rt, &before, store)?;
     print!(rt; " work")?;
     print_changes(rt, &fresh, work)?;
     end_line(rt)
-}
-
-fn edit(store: &mut [u32], work: &mut [u32], put: bool, pair: Pair) -> EditReply {
-    if put {
-        return edit_reply(index::put(store, work, pair));
-    }
-    edit_reply(index::drop(store, work, pair))
 }
 
 pub fn format_line(rt: &impl Print, store: &mut [u32], g: Geometry) -> io::Result<()> {
@@ -123,7 +116,7 @@ fn numbered(first: u32) -> [u32; MOST_WORDS]
 fn copied(lent: &[u32]) -> [u32; MOST_WORDS]
     ensures { length result ≡ 4096 }
 {
-    let n = least(lent.len(), MOST_WORDS);
+    let n = lent.len().min(MOST_WORDS);
     let mut words = [0; MOST_WORDS];
     words[..n].copy_from_slice(&lent[..n]);
     words

@@ -1,7 +1,6 @@
 // The parts of a line.
 ghost use Rattle.std.specs.Prelude.{◌≤◌, ◌<◌, ◌≡◌, length};
 
-use crate::least;
 use std::io;
 
 // A reply's number and its values.
@@ -27,7 +26,7 @@ pub fn end_line(rt: &impl Print) -> io::Result<()> {
 
 // The words that are other than before, a run of one word as ` 12=0*3`.
 pub fn print_changes(rt: &impl Print, before: &[u32], after: &[u32]) -> io::Result<()> {
-    let n = least(before.len(), after.len());
+    let n = before.len().min(after.len());
     let mut i = 0;
     while i < n {
         let end = run_end(before, after, i, n);
@@ -48,10 +47,7 @@ fn run_end(before: &[u32], after: &[u32], from: usize, to: usize) -> usize
 {
     let word = after[from];
     for i in from..to {
-        if before[i] == after[i] {
-            return i;
-        }
-        if after[i] != word {
+        if before[i] == after[i] || after[i] != word {
             return i;
         }
     }

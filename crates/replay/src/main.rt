@@ -12,22 +12,25 @@
 // is 2 now, and that words 12 to 14 are 0.
 #![tactic(auto)]
 
-ghost use Rattle.std.specs.Prelude.{◌+◌, ◌<◌, ◌≤◌, ◌≡◌, length, vec_capacity, vec_len, IfOk};
+ghost use Rattle.std.specs.Prelude.{◌+◌, ◌<◌, ◌≤◌, length, vec_capacity, vec_len, IfOk, ◌≡◌};
 
 mod calls;
 mod lines;
+mod op;
 
 use calls::{ask_line, check_line, edit_line, format_line, list_line, why_line};
-use geometry::Geometry;
 use lines::end_line;
-use script::word_at;
-use slot::{Pair, Rid};
+use op::{Op, UnknownOp};
+use script::{geometry_at, pair_at, word_at};
 use std::alloc::{AllocError, Global};
 use std::io;
 use std::io::Read;
 
 // The most bytes of a script that are read.
 const MOST_BYTES: usize = 1048576;
+
+// What begins a store.
+const STORE: u32 = 1;
 
 fn main(rt: HostRuntime) -> io::Result<()> {
     let mut input = room(rt.alloc())?;
@@ -43,61 +46,63 @@ fn room(alloc: Global) -> Result<Vec<u8>, AllocError>
     Vec::with_capacity(alloc, MOST_BYTES)
 }
 
-// Goes through a script to its end, or to a number that begins nothing.
+// Goes through a script to its end. A number that begins nothing has an empty line.
 fn replay(rt: &impl Print, script: &[u8], store: &mut [u32]) -> io::Result<()> {
     let mut at = 0;
     let mut words = 0;
     while at < script.len() {
-        let op = word_at(script, at);
-        if op == 1 {
+        let number = word_at(script, at);
+        if number == STORE {
             let loaded = load(script, at + 4, store);
             at = loaded.next;
             words = loaded.words;
         } else {
-            let n = least(words, store.len());
-            call(rt, script, at, op, &mut store[0..n])?;
-            at += length_of(op);
+            let n = words.min(store.len());
+            at += turn(rt, script, at, Op::try_from(number), &mut store[..n])?;
         }
     }
     Ok(())
 }
 
+// Makes a call, where there is one, and gives how many bytes of the script it took.
+fn turn(
+    rt: &impl Print,
+    script: &[u8],
+    at: usize,
+    op: Result<Op, UnknownOp>,
+    store: &mut [u32],
+) -> io::Result<usize>
+    requires { at < length script.now }
+    ensures { IfOk result (λ n. (4 ≤ n) × (n ≤ 24)) }
+{
+    let Ok(op) = op else {
+        end_line(rt)?;
+        return Ok(4);
+    };
+    call(rt, script, at, op, store)?;
+    Ok(op.length())
+}
+
 // Makes one call and prints its line.
-fn call(rt: &impl Print, script: &[u8], at: usize, op: u32, store: &mut [u32]) -> io::Result<()>
+fn call(rt: &impl Print, script: &[u8], at: usize, op: Op, store: &mut [u32]) -> io::Result<()>
     requires { at < length script.now }
 {
     let pair = pair_at(script, at + 4);
     let words = word_at(script, at + 12);
     match op {
-        2 => ask_line(rt, store, pair),
-        3 => check_line(rt, store),
-        4 => list_line(
+        Op::Ask => ask_line(rt, store, pair),
+        Op::Check => check_line(rt, store),
+        Op::List => list_line(
             rt,
             store,
             pair,
             pair_at(script, at + 12),
             word_at(script, at + 20),
         ),
-        5 => edit_line(rt, store, true, pair, words),
-        6 => edit_line(rt, store, false, pair, words),
-        7 => format_line(rt, store, geometry_at(script, at + 4)),
-        8 => why_line(rt, store, pair),
-        _ => end_line(rt),
-    }
-}
-
-// How many bytes a call takes in the script.
-fn length_of(op: u32) -> usize
-    ensures { (4 ≤ result) × (result ≤ 24) }
-{
-    match op {
-        2 => 12,
-        4 => 24,
-        5 => 16,
-        6 => 16,
-        7 => 16,
-        8 => 12,
-        _ => 4,
+        Op::Put => edit_line(rt, store, true, pair, words),
+        Op::Drop => edit_line(rt, store, false, pair, words),
+        Op::Format => format_line(rt, store, geometry_at(script, at + 4)),
+        Op::Why => why_line(rt, store, pair),
     }
 }
 
@@ -113,57 +118,29 @@ fn load(script: &[u8], at: usize, store: &mut [u32]) -> Loaded
     requires { at ≤ length script.now + 4 }
     ensures { at < result.next }
 {
-    let runs = word_at(script, at);
-    let mut next = at + 4;
+    let runs = word_at(script, at) as usize;
     let mut words = 0;
-    for _ in 0..runs {
+    for run in 0..runs {
+        let place = at + 4 + 8 * run;
         words = fill(
             store,
             words,
-            word_at(script, next),
-            word_at(script, next + 4),
+            word_at(script, place),
+            word_at(script, place + 4),
         );
-        next += 8;
     }
-    Loaded { next, words }
+    Loaded {
+        next: at + 4 + 8 * runs,
+        words,
+    }
 }
 
 // Writes a word count times from a place on, as far as the store goes; where it stopped.
-fn fill(store: &mut [u32], from: usize, count: u32, word: u32) -> usize {
-    let mut i = from;
-    let mut left = count;
-    while i < store.len() {
-        if left == 0 {
-            return i;
-        }
-        store[i] = word;
-        i += 1;
-        left -= 1;
-    }
-    i
-}
-
-fn pair_at(script: &[u8], at: usize) -> Pair
-    requires { at ≤ length script.now + 16 }
+fn fill(store: &mut [u32], from: usize, count: u32, word: u32) -> usize
+    requires { from ≤ length store.old }
+    ensures { result ≤ length store.new }
 {
-    Pair {
-        badge: word_at(script, at),
-        floor: Rid(word_at(script, at + 4)),
-    }
-}
-
-fn geometry_at(script: &[u8], at: usize) -> Geometry
-    requires { at ≤ length script.now + 16 }
-{
-    Geometry {
-        head: word_at(script, at),
-        ratio: word_at(script, at + 4),
-        levels: word_at(script, at + 8),
-    }
-}
-
-pub fn least(a: usize, b: usize) -> usize
-    ensures { (result ≤ a) × (result ≤ b) }
-{
-    if a < b { a } else { b }
+    let end = (from + count as usize).min(store.len());
+    store[from..end].fill(word);
+    end
 }

@@ -18,8 +18,8 @@ use Rattle.fault.specs.declared.Fault.{Fault}
 use Rattle.fault.specs.declared.Part.{Part}
 use Rattle.fault.specs.declared.Part.TheVariants.{Directory, Head, Page, Writing, Kinds}
 use Rattle.fault.specs.Numbers.{number_of, fault_in, no_place}
-use Rattle.fault.specs.declared.Judged.{Judged}
-use Rattle.fault.specs.declared.Judged.TheVariants.{Sound, FaultAt}
+use Rattle.fault.specs.Judged.{Judged}
+use Rattle.std.specs.Prelude.{Err, Ok}
 use Rattle.rules.specs.Finding.{Told, decided, follow, nothing, tell}
 use Rattle.rules.specs.Sound.{head_slots, page_slots, tree_of, directory_right, head_right, page_formed, page_right}
 use Rattle.rules.specs.Faults.{unless, first_fault, head_fault, page_fault, walk_fault, form_faults, writing_faults, across_fault, fault}
@@ -28,8 +28,7 @@ use Rattle.faults.specs.Pages.{forms_part}
 use Rattle.faults.specs.Writing.{writings_part}
 use Rattle.faults.specs.Kinds.{across_part}
 use Rattle.geometry.specs.Directory.{geometry_of}
-use Rattle.walk.specs.declared.Walked.{Walked}
-use Rattle.walk.specs.declared.Walked.TheVariants.{Found, Fault as Fault-of-walk}
+use Rattle.walk.specs.Walked.{Walked}
 use Rattle.walk.specs.Stepping.{Step}
 use Rattle.walk.specs.Stepping.{Decided, Follow, Nothing, Broken}
 use Rattle.walk.specs.Step.{step_of, head_step, page_step}
@@ -63,9 +62,9 @@ ask_in_order w p = by_opening (opening w) refl ∙ sym (opens_first w (walk_test
         walk_reply x ≡
         by_first (number_told (fault_of x)) (record { number = 0; values = cond (held_by x) 1 0 ∷ decider x ∷ 0 ∷ [] })
         (λ n. record { number = n; values = fault_told n (fault_of x) })
-    by_walk (Found held level) = refl
-    by_walk (Fault-of-walk f) =
-        sym (fault_refused _ (λ n. record { number = n; values = fault_told n (FaultAt f) }) f.part ∙ ap (λ (v : List ℕ). replied (fault_number f) v) (fault_told_lem f.part (FaultAt f)))
+    by_walk (Ok f) = refl
+    by_walk (Err f) =
+        sym (fault_refused _ (λ n. record { number = n; values = fault_told n (Err f) }) f.part ∙ ap (λ (v : List ℕ). replied (fault_number f) v) (fault_told_lem f.part (Err f)))
 
     walks : walk_reply (walked (geometry_of w) w p) ≡ by_first (first_failing (walk_tests w p)) (ask_done w p) (ask_refused w p)
     walks = by_walk (walked (geometry_of w) w p) ∙ ap (λ (n : ℕ). by_first n (ask_done w p) (ask_refused w p)) (sym (walk_number w p))
@@ -79,9 +78,9 @@ unfolding check_tests check_done check_refused whole_fault
 check_in_order w = by_opening (opening w) refl ∙ sym (opens_first w (whole_tests w) check_done (check_refused w))
   where
     by_fault : (j : Judged) → judged_reply j ≡ by_first (number_told j) check_done (λ n. record { number = n; values = fault_told n j })
-    by_fault Sound = refl
-    by_fault (FaultAt f) =
-        sym (fault_refused check_done (λ n. record { number = n; values = fault_told n (FaultAt f) }) f.part ∙ ap (λ (v : List ℕ). replied (fault_number f) v) (fault_told_lem f.part (FaultAt f)))
+    by_fault (Ok tt) = refl
+    by_fault (Err f) =
+        sym (fault_refused check_done (λ n. record { number = n; values = fault_told n (Err f) }) f.part ∙ ap (λ (v : List ℕ). replied (fault_number f) v) (fault_told_lem f.part (Err f)))
 
     tested : judged_reply (whole_fault w) ≡ by_first (first_failing (whole_tests w)) check_done (check_refused w)
     tested = by_fault (whole_fault w) ∙ ap (λ (n : ℕ). by_first n check_done (check_refused w)) (sym (whole_number w))
@@ -100,9 +99,9 @@ list_in_order w first second slice =
     listed = list first second (tree_of (geometry_of w) w) slice
 
     by_fault : (j : Judged) → tested_reply j listed slice ≡ by_first (number_told j) (list_done w first second slice) (λ n. filled n (fault_told n j) slice)
-    by_fault Sound = refl
-    by_fault (FaultAt f) =
-        sym (fault_refused (list_done w first second slice) (λ n. filled n (fault_told n (FaultAt f)) slice) f.part ∙ ap (λ (v : List ℕ). filled (fault_number f) v slice) (fault_told_lem f.part (FaultAt f)))
+    by_fault (Ok tt) = refl
+    by_fault (Err f) =
+        sym (fault_refused (list_done w first second slice) (λ n. filled n (fault_told n (Err f)) slice) f.part ∙ ap (λ (v : List ℕ). filled (fault_number f) v slice) (fault_told_lem f.part (Err f)))
 
     tested : tested_reply (whole_fault w) listed slice ≡ by_first (first_failing (whole_tests w)) (list_done w first second slice) (list_refused w slice)
     tested = by_fault (whole_fault w) ∙ ap (λ (n : ℕ). by_first n (list_done w first second slice) (list_refused w slice)) (sym (whole_number w))
@@ -117,18 +116,18 @@ module _ (w work : List ℕ) where
   change_done c = kept 0 c.values c.store c.work
 
   -- A fault is refused with every word kept, wherever in the order it is told.
-  fault_keeps : (done : Kept) (f : Fault) → kept (fault_number f) (faulty f) w work ≡ by_first (fault_number f) done (edit_refused w work (FaultAt f))
+  fault_keeps : (done : Kept) (f : Fault) → kept (fault_number f) (faulty f) w work ≡ by_first (fault_number f) done (edit_refused w work (Err f))
   unfolding edit_refused
   fault_keeps done f =
-      sym (fault_refused done (edit_refused w work (FaultAt f)) f.part ∙ ap (λ (v : List ℕ). kept (fault_number f) (v ++ 0 ∷ 0 ∷ 0 ∷ 0 ∷ []) w work) (fault_told_lem f.part (FaultAt f)))
+      sym (fault_refused done (edit_refused w work (Err f)) f.part ∙ ap (λ (v : List ℕ). kept (fault_number f) (v ++ 0 ∷ 0 ∷ 0 ∷ 0 ∷ []) w work) (fault_told_lem f.part (Err f)))
 
   walk_refused : (done : Kept) (n : ℕ) (f : Fault) →
-      kept (fault_number f) (faulty f) w work ≡ by_first (by_first (fault_number f) n (λ m. m)) done (edit_refused w work (FaultAt f))
-  walk_refused done n f = fault_keeps done f ∙ ap (λ (m : ℕ). by_first m done (edit_refused w work (FaultAt f))) (sym (fault_refused n (λ m. m) f.part))
+      kept (fault_number f) (faulty f) w work ≡ by_first (by_first (fault_number f) n (λ m. m)) done (edit_refused w work (Err f))
+  walk_refused done n f = fault_keeps done f ∙ ap (λ (m : ℕ). by_first m done (edit_refused w work (Err f))) (sym (fault_refused n (λ m. m) f.part))
 
   -- A change of the head, with the late tests before a merge.
   abbrev merge_fault_by : Bool → Judged
-  merge_fault_by own = elim (fills_head (geometry_of w) w own) [ true ↦ whole_fault w | false ↦ Sound ]
+  merge_fault_by own = elim (fills_head (geometry_of w) w own) [ true ↦ whole_fault w | false ↦ (Ok tt) ]
 
   abbrev merge_tests_by : Bool → List Test
   merge_tests_by own = elim (fills_head (geometry_of w) w own) [ true ↦ whole_tests w | false ↦ [] ]
@@ -140,7 +139,7 @@ module _ (w work : List ℕ) where
   change_in_order e own = by (fills_head (geometry_of w) w own) (fault (geometry_of w) w) (whole_number w)
     where
       merged : Judged → Changed
-      merged j = elim j [ Sound ↦ changed_tree (geometry_of w) e w work | FaultAt f ↦ stayed f w work ]
+      merged j = elim j [ (Ok tt) ↦ changed_tree (geometry_of w) e w work | Err f ↦ stayed f w work ]
 
       changed : Bool → Judged → Changed
       changed b j = elim b [ true ↦ merged j | false ↦ changed_head (geometry_of w) e own w work ]
@@ -149,12 +148,12 @@ module _ (w work : List ℕ) where
       tests b = elim b [ true ↦ whole_tests w | false ↦ [] ]
 
       found : Bool → Judged → Judged
-      found b j = elim b [ true ↦ j | false ↦ Sound ]
+      found b j = elim b [ true ↦ j | false ↦ (Ok tt) ]
 
       by : (b : Bool) (j : Judged) → first_failing (whole_tests w) ≡ number_told j →
           changed_reply (changed b j) ≡ by_first (first_failing (tests b)) (change_done (changed b j)) (edit_refused w work (found b j))
-      by true Sound e = rw e
-      by true (FaultAt f) e = rw e (fault_keeps (change_done (stayed f w work)) f)
+      by true (Ok tt) e = rw e
+      by true (Err f) e = rw e (fault_keeps (change_done (stayed f w work)) f)
       by false j e = refl
 
   module _ (p : Pair) where
@@ -165,24 +164,27 @@ module _ (w work : List ℕ) where
         (change_done (change_of (geometry_of w) (record { pair = p; normal = true }) (eqb (decider x) 0) w work))
         (edit_refused w work (first_fault (fault_of x ∷ merge_fault_by (eqb (decider x) 0) ∷ [])))
     unfolding found_of put_found below_most first_fault first_failing edit_refused fault_told
-    put_by_walk (Fault-of-walk f) = walk_refused (change_done (change_of (geometry_of w) (record { pair = p; normal = true }) (eqb 0 0) w work)) _ f
-    put_by_walk (Found true level) = put_held (merge_fault_by (eqb level 0))
-      where
-        put_held : (j : Judged) → kept 2 zeros w work ≡ edit_refused w work (first_fault (j ∷ [])) 2
-        put_held j = refl
-    put_by_walk (Found false level) = by (ltb (get_or w live_word 0) (most (geometry_of w))) (change_in_order (record { pair = p; normal = true }) (eqb level 0))
+    put_by_walk (Err f) = walk_refused (change_done (change_of (geometry_of w) (record { pair = p; normal = true }) (eqb 0 0) w work)) _ f
+    put_by_walk (Ok f) = by_held f.held
       where
         changed : Changed
-        changed = change_of (geometry_of w) (record { pair = p; normal = true }) (eqb level 0) w work
+        changed = change_of (geometry_of w) (record { pair = p; normal = true }) (eqb f.level 0) w work
 
         merging : Judged
-        merging = merge_fault_by (eqb level 0)
+        merging = merge_fault_by (eqb f.level 0)
 
-        by : (b : Bool) → changed_reply changed ≡ by_first (first_failing (merge_tests_by (eqb level 0))) (change_done changed) (edit_refused w work merging) →
+        by : (b : Bool) → changed_reply changed ≡ by_first (first_failing (merge_tests_by (eqb f.level 0))) (change_done changed) (edit_refused w work merging) →
             elim b as (λ _. Kept) [ true ↦ changed_reply changed | false ↦ kept 4 zeros w work ] ≡
-            by_first (first_failing (test b 4 ∷ merge_tests_by (eqb level 0))) (change_done changed) (edit_refused w work (first_fault (merging ∷ [])))
+            by_first (first_failing (test b 4 ∷ merge_tests_by (eqb f.level 0))) (change_done changed) (edit_refused w work (first_fault (merging ∷ [])))
         by true h = rw (only_one merging) h
         by false h = refl
+
+        by_held : (held : Bool) →
+            put_found w work p held f.level ≡
+            by_first (first_failing (test (not held) 2 ∷ test (below_most w) 4 ∷ merge_tests_by (eqb f.level 0))) (change_done changed)
+            (edit_refused w work (first_fault (merging ∷ [])))
+        by_held true = refl
+        by_held false = by (ltb (get_or w live_word 0) (most (geometry_of w))) (change_in_order (record { pair = p; normal = true }) (eqb f.level 0))
 
     drop_by_walk : (x : Walked) →
         after_walk w work x (found_of w work false p) ≡
@@ -190,24 +192,27 @@ module _ (w work : List ℕ) where
         (change_done (change_of (geometry_of w) (record { pair = p; normal = false }) (eqb (decider x) 0) w work))
         (edit_refused w work (first_fault (fault_of x ∷ unless (some_live w) (no_place Kinds) ∷ merge_fault_by (eqb (decider x) 0) ∷ [])))
     unfolding found_of drop_found some_live first_fault first_failing edit_refused fault_told
-    drop_by_walk (Fault-of-walk f) = walk_refused (change_done (change_of (geometry_of w) (record { pair = p; normal = false }) (eqb 0 0) w work)) _ f
-    drop_by_walk (Found false level) = drop_missing (first_fault (unless (ltb 0 (get_or w live_word 0)) (no_place Kinds) ∷ merge_fault_by (eqb level 0) ∷ []))
-      where
-        drop_missing : (j : Judged) → kept 3 zeros w work ≡ edit_refused w work j 3
-        drop_missing j = refl
-    drop_by_walk (Found true level) = by (ltb 0 (get_or w live_word 0)) (change_in_order (record { pair = p; normal = false }) (eqb level 0))
+    drop_by_walk (Err f) = walk_refused (change_done (change_of (geometry_of w) (record { pair = p; normal = false }) (eqb 0 0) w work)) _ f
+    drop_by_walk (Ok f) = by_held f.held
       where
         changed : Changed
-        changed = change_of (geometry_of w) (record { pair = p; normal = false }) (eqb level 0) w work
+        changed = change_of (geometry_of w) (record { pair = p; normal = false }) (eqb f.level 0) w work
 
         merging : Judged
-        merging = merge_fault_by (eqb level 0)
+        merging = merge_fault_by (eqb f.level 0)
 
-        by : (b : Bool) → changed_reply changed ≡ by_first (first_failing (merge_tests_by (eqb level 0))) (change_done changed) (edit_refused w work merging) →
+        by : (b : Bool) → changed_reply changed ≡ by_first (first_failing (merge_tests_by (eqb f.level 0))) (change_done changed) (edit_refused w work merging) →
             elim b as (λ _. Kept) [ true ↦ changed_reply changed | false ↦ kept (fault_number (no_place Kinds)) (faulty (no_place Kinds)) w work ] ≡
-            by_first (first_failing (test b 14 ∷ merge_tests_by (eqb level 0))) (change_done changed) (edit_refused w work (first_fault (unless b (no_place Kinds) ∷ merging ∷ [])))
+            by_first (first_failing (test b 14 ∷ merge_tests_by (eqb f.level 0))) (change_done changed) (edit_refused w work (first_fault (unless b (no_place Kinds) ∷ merging ∷ [])))
         by true h = rw (only_one merging) h
         by false h = refl
+
+        by_held : (held : Bool) →
+            drop_found w work p held f.level ≡
+            by_first (first_failing (test held 3 ∷ test (some_live w) 14 ∷ merge_tests_by (eqb f.level 0))) (change_done changed)
+            (edit_refused w work (first_fault (unless (some_live w) (no_place Kinds) ∷ merging ∷ [])))
+        by_held false = refl
+        by_held true = by (ltb 0 (get_or w live_word 0)) (change_in_order (record { pair = p; normal = false }) (eqb f.level 0))
 
     -- The opening tests come before them.
     opens_then : (normal : Bool) (f : Judged) (done : Kept) (later : List Test) →

@@ -7,15 +7,14 @@ use Rattle.geometry.specs.Places.{live_word}
 use Rattle.slot.specs.declared.Pair.{Pair}
 use Rattle.rules.specs.Listing.{list}
 use Rattle.rules.specs.Store.{empty_store}
-use Rattle.fault.specs.declared.Judged.{Judged}
-use Rattle.fault.specs.declared.Judged.TheVariants.{Sound, FaultAt}
+use Rattle.fault.specs.Judged.{Judged}
+use Rattle.std.specs.Prelude.{Err, Ok}
 use Rattle.fault.specs.declared.Part.TheVariants.{Kinds}
 use Rattle.fault.specs.Numbers.{no_place}
 use Rattle.rules.specs.Sound.{tree_of, directory_right, head_right, page_formed, page_right}
 use Rattle.rules.specs.Faults.{unless, first_fault, form_faults, writing_faults, across_fault, fault}
 use Rattle.geometry.specs.Directory.{geometry_of}
-use Rattle.walk.specs.declared.Walked.{Walked}
-use Rattle.walk.specs.declared.Walked.TheVariants.{Found, Fault as Fault-of-walk}
+use Rattle.walk.specs.Walked.{Walked}
 use Rattle.walk.specs.Stepping.{Step}
 use Rattle.walk.specs.Stepping.{Decided, Follow, Nothing, Broken}
 use Rattle.walk.specs.Step.{head_step, page_step}
@@ -30,16 +29,16 @@ use Rattle.call_put.specs.Edit.{Kept, kept}
 
 -- What the walk gives: its fault or none, whether the pair is held, and the deciding level.
 abbrev pub fault_of : Walked → Judged
-fault_of (Found held level) = Sound
-fault_of (Fault-of-walk fault) = FaultAt fault
+fault_of (Ok f) = Ok tt
+fault_of (Err fault) = Err fault
 
 abbrev pub held_by : Walked → Bool
-held_by (Found held level) = held
-held_by (Fault-of-walk fault) = false
+held_by (Ok f) = f.held
+held_by (Err fault) = false
 
 abbrev pub decider : Walked → ℕ
-decider (Found held level) = level
-decider (Fault-of-walk fault) = 0
+decider (Ok f) = f.level
+decider (Err fault) = 0
 
 module _ (w : List ℕ) where
   abbrev g : Geometry
@@ -73,14 +72,14 @@ module _ (w : List ℕ) where
 
     -- They test the whole store then.
     unfoldable pub merge_fault : Judged
-    merge_fault = elim would_merge [ true ↦ whole_fault | false ↦ Sound ]
+    merge_fault = elim would_merge [ true ↦ whole_fault | false ↦ (Ok tt) ]
 
 -- The order of tests ------------------------------------------------------------------------------------------------------------------------
 
 -- A test of soundness passes where it finds no fault.
 abbrev pub faultless : Judged → Bool
-faultless Sound = true
-faultless (FaultAt f) = false
+faultless (Ok tt) = true
+faultless (Err f) = false
 
 -- The whole store: the number decides first.
 unfoldable pub whole_tests : List ℕ → List Test
@@ -132,8 +131,8 @@ drop_fault w p = first_fault (walked_fault w p ∷ unless (some_live w) (no_plac
 
 -- The first values of a refusal: zeros, but from 10 on the place of the fault.
 abbrev pub judged_values : Judged → List ℕ
-judged_values Sound = 0 ∷ 0 ∷ 0 ∷ []
-judged_values (FaultAt f) = fault_values f
+judged_values (Ok tt) = 0 ∷ 0 ∷ 0 ∷ []
+judged_values (Err f) = fault_values f
 
 unfoldable pub fault_told : ℕ → Judged → List ℕ
 fault_told number j = elim (leb 10 number) [ true ↦ judged_values j | false ↦ 0 ∷ 0 ∷ 0 ∷ [] ]

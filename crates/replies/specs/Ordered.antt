@@ -18,8 +18,8 @@ use Rattle.fault.specs.declared.Fault.{Fault}
 use Rattle.fault.specs.declared.Part.{Part}
 use Rattle.fault.specs.declared.Part.TheVariants.{Directory, Head, Page, Writing, Kinds}
 use Rattle.fault.specs.Numbers.{number_of, fault_in, no_place}
-use Rattle.fault.specs.declared.Judged.{Judged}
-use Rattle.fault.specs.declared.Judged.TheVariants.{Sound, FaultAt}
+use Rattle.fault.specs.Judged.{Judged}
+use Rattle.std.specs.Prelude.{Err, Ok}
 use Rattle.rules.specs.Finding.{Told, decided, follow, nothing, tell}
 use Rattle.rules.specs.Sound.{head_slots, page_slots, tree_of, directory_right, head_right, page_formed, page_right}
 use Rattle.rules.specs.Faults.{unless, first_fault, head_fault, page_fault, walk_fault, form_faults, writing_faults, across_fault, fault}
@@ -28,8 +28,7 @@ use Rattle.faults.specs.Pages.{forms_part}
 use Rattle.faults.specs.Writing.{writings_part}
 use Rattle.faults.specs.Kinds.{across_part}
 use Rattle.geometry.specs.Directory.{geometry_of}
-use Rattle.walk.specs.declared.Walked.{Walked}
-use Rattle.walk.specs.declared.Walked.TheVariants.{Found, Fault as Fault-of-walk}
+use Rattle.walk.specs.Walked.{Walked}
 use Rattle.walk.specs.Stepping.{Step}
 use Rattle.walk.specs.Stepping.{Decided, Follow, Nothing, Broken}
 use Rattle.walk.specs.Step.{step_of, head_step, page_step}
@@ -66,8 +65,8 @@ module _ {A : Type 0} (w : List ℕ) (later : List Test) (done : A) (refused : �
 
 -- A fault is refused with its number, and with its place ------------------------------------------------------------------------------------
 abbrev pub number_told : Judged → ℕ
-number_told Sound = 0
-number_told (FaultAt f) = fault_number f
+number_told (Ok tt) = 0
+number_told (Err f) = fault_number f
 
 module _ {A : Type 0} (done : A) (refused : ℕ → A) where
   pub fault_refused : (part : Part) → by_first (number_of part) done refused ≡ refused (number_of part)
@@ -93,16 +92,16 @@ whole_number w = by (directory_right g w) (head_right g w) (form_faults g w) (fo
     g : Geometry
     g = geometry_of w
 
-    by : (directory head : Bool) (forms : Judged) → ((f : Fault) → forms ≡ FaultAt f → f.part ≡ Page) → (writings : Judged) → ((f : Fault) → writings ≡ FaultAt f → f.part ≡ Writing) →
-        (across : Judged) → ((f : Fault) → across ≡ FaultAt f → f.part ≡ Kinds) →
+    by : (directory head : Bool) (forms : Judged) → ((f : Fault) → forms ≡ Err f → f.part ≡ Page) → (writings : Judged) → ((f : Fault) → writings ≡ Err f → f.part ≡ Writing) →
+        (across : Judged) → ((f : Fault) → across ≡ Err f → f.part ≡ Kinds) →
         first_failing (test directory 10 ∷ test head 11 ∷ test (faultless forms) 12 ∷ test (faultless writings) 13 ∷ test (faultless across) 14 ∷ []) ≡
         number_told (first_fault (unless directory (no_place Directory) ∷ unless head (head_fault g w) ∷ forms ∷ writings ∷ across ∷ []))
     by false head forms a writings b across c = refl
     by true false forms a writings b across c = refl
-    by true true (FaultAt f) a writings b across c = rw (a f refl)
-    by true true Sound a (FaultAt f) b across c = rw (b f refl)
-    by true true Sound a Sound b (FaultAt f) c = rw (c f refl)
-    by true true Sound a Sound b Sound c = refl
+    by true true (Err f) a writings b across c = rw (a f refl)
+    by true true (Ok tt) a (Err f) b across c = rw (b f refl)
+    by true true (Ok fine) a (Ok right) b (Err f) c = rw (c f refl)
+    by true true (Ok fine) a (Ok right) b (Ok whole) c = refl
 
 -- So with the tests of a walk: what a page tells by its two tests.
 module _ (g : Geometry) (w : List ℕ) (p : Pair) (i q : ℕ) where
@@ -147,7 +146,7 @@ walk_number w p = by (directory_right g w) (head_right g w)
 
     by : (b c : Bool) →
         first_failing (test b 10 ∷ test c 11 ∷ page_tests g w p (bottom g) 0 (cond c (step_of (tell p (head_slots g w))) (Broken (head_fault g w)))) ≡
-        number_told (fault_of (cond b (walk_on g w p (bottom g) 0 (cond c (step_of (tell p (head_slots g w))) (Broken (head_fault g w)))) (Fault-of-walk (no_place Directory))))
+        number_told (fault_of (cond b (walk_on g w p (bottom g) 0 (cond c (step_of (tell p (head_slots g w))) (Broken (head_fault g w)))) (Err (no_place Directory))))
     by false c = refl
     by true false = ap (λ (x : Walked). number_told (fault_of x)) (sym (walk_broken g w p (bottom g) 0 (head_fault g w)))
     by true true = page_number g w p (bottom g) 0 (tell p (head_slots g w))

@@ -1,13 +1,8 @@
 -- Laws of a row cut into pages: what holds of it by the slots put first, and that its entries stay. Assumes nothing.
-use Rattle.std.specs.Prelude.{ℕ, ◌+◌, ◌%◌, ◌≡◌, refl, ◌≢◌, Bool, true, false, List, [], ◌∷◌, eqb}
-use Rattle.std.proofs.Common.{ap, eqb-true}
-use Rattle.std.proofs.lemmas.Bool.{eqb-false}
+use Rattle.std.specs.Prelude.{ℕ, ◌≡◌, refl, List}
 use Rattle.slot.specs.declared.Slot.{Slot}
-use Rattle.rules.specs.Tree.{Level}
-use Rattle.rules.specs.Level.{internal, fence_kind, paged}
-use Rattle.rules.specs.Finding.{normal_kind}
+use Rattle.rules.specs.Level.{internal, paged}
 use Rattle.rules.specs.Sound.{entries_of}
-use Rattle.rules.specs.Woven.{fence}
 use Rattle.rules.specs.Paged.{by_paging, entries_behind}
 
 pub entries_paged : (j last : ℕ) (ss : List Slot) → entries_of (paged j last ss) ≡ entries_of ss

@@ -1,19 +1,15 @@
 -- Laws of entries woven with fences: what holds of both holds of the row, and its entries and its fences are those given. Assumes nothing.
-use Prim.Native.Nat.{ℕ, zero, suc}
-use Rattle.std.specs.Prelude.{◌≡◌, Bool, List, [], ◌∷◌}
+use Prim.Native.Nat.{ℕ}
+use Rattle.std.specs.Prelude.{◌≡◌, Bool, List, ◌∷◌}
 use Rattle.std.proofs.Math.Path.{refl, ap}
 use Rattle.std.proofs.Common.{sym, ◌∙◌}
-use Rattle.std.proofs.Math.Bool.{true, false}
-use Rattle.laws.specs.Lists.{span, all, passing_yes, passing_no}
-use Rattle.laws.specs.Flat.{all_first, all_rest, all_join, all_span}
-use Rattle.slot.specs.declared.Pair.{Pair}
+use Rattle.std.proofs.Math.Bool.{true}
+use Rattle.laws.specs.Lists.{all}
+use Rattle.laws.specs.Flat.{all_first, all_rest, all_join}
 use Rattle.slot.specs.declared.Slot.{Slot}
-use Rattle.slot.specs.declared.Kind.TheVariants.{Normal, Filter}
-use Rattle.slot.specs.Pair.{before}
 use Rattle.rules.specs.Tree.{Entry, Level}
-use Rattle.rules.specs.Level.{index, external, fence_kind, fence_of, place, weave}
-use Rattle.rules.specs.Finding.{normal_kind}
-use Rattle.rules.specs.Sound.{entries_of, fence_pages, legal}
+use Rattle.rules.specs.Level.{index, weave}
+use Rattle.rules.specs.Sound.{entries_of, fence_pages}
 use Rattle.rules.specs.Woven.{by_weaving, entries_fence, entries_index, entries_none, fence, pages_fence, pages_index}
 
 -- A test that the entries' slots and the fences pass.

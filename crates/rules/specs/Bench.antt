@@ -1,7 +1,7 @@
 -- The bench table: its starred cases, its list case and the errors that look right, computed by the rules as one statement over one list
 -- of cases.
 -- Assumes nothing.
-use Rattle.std.specs.Prelude.{ℕ, ◌+◌, ◌*◌, ◌≡◌, refl, Bool, true, false, List, [], ◌∷◌, ◌++◌, map, length, get_or, replicate}
+use Rattle.std.specs.Prelude.{ℕ, ◌+◌, ◌*◌, ◌≡◌, refl, Bool, true, false, List, [], ◌∷◌, ◌++◌, map, length, get_or, replicate, Err, Ok}
 use Rattle.laws.specs.Lists.{span, concat, passing, all, equal}
 use Rattle.geometry.specs.declared.Geometry.{Geometry}
 use Rattle.geometry.specs.Geometry.{capacity, most, total, room_over, room}
@@ -18,8 +18,7 @@ use Rattle.rules.specs.Listing.{insert, pairs_with, pairs_of, held_between, pair
 use Rattle.rules.specs.Store.{run_words, page_words, level_words, page_count, directory, laid_out, writing}
 use Rattle.rules.specs.Sound.{slots_from, head_slots, count_at, page_slots, level_slots, entries_of, first_at, tree_of, pages_right, directory_right, follows, in_order, legal, fence_pages, first_is_least, head_right, count_right, page_formed, ascending, level_laid, within_capacity, level_sound, head_sound, alternating, count_kind, live_right}
 use Rattle.fault.specs.Numbers.{number_of}
-use Rattle.fault.specs.declared.Judged.{Judged}
-use Rattle.fault.specs.declared.Judged.TheVariants.{Sound, FaultAt}
+use Rattle.fault.specs.Judged.{Judged}
 use Rattle.rules.specs.Faults.{first_fault, kinds_faults, form_fault, form_faults, writing_fault, writing_faults, across_fault, fault}
 use Rattle.geometry.specs.Directory.{pages_of}
 use Rattle.rules.specs.Requests.{Request, putting, dropping, step, run, final, accepted, writes}
@@ -57,8 +56,8 @@ bit false = 0
 
 -- 0 for a sound store, else one more than the level told.
 abbrev pub fault_number : Judged → ℕ
-fault_number Sound = 0
-fault_number (FaultAt f) = number_of f.part
+fault_number (Ok tt) = 0
+fault_number (Err f) = number_of f.part
 
 -- Page counts of levels 1 on.
 unfoldable pub pages_in : List (List Slot) → List ℕ

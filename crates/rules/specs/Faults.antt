@@ -1,11 +1,10 @@
 -- The numbers and places of faults, and the order in which the whole store is tested for them, on any words. The geometry is in range and the
 -- length right. Assumes nothing.
-use Rattle.std.specs.Prelude.{ℕ, zero, suc, ◌+◌, ◌-◌, ◌*◌, ◌/◌, ◌%◌, min, Bool, true, false, cond, ◌&&◌, List, [], ◌∷◌, ◌++◌, length, get_or, take, ltb, leb, eqb}
+use Rattle.std.specs.Prelude.{ℕ, zero, suc, ◌+◌, ◌-◌, ◌*◌, ◌/◌, ◌%◌, min, Bool, true, false, cond, ◌&&◌, List, [], ◌∷◌, ◌++◌, length, get_or, take, ltb, leb, eqb, Err, Ok}
 use Rattle.laws.specs.Lists.{span, concat, all, equal}
 use Rattle.laws.specs.First.{first_not}
 use Rattle.fault.specs.declared.Fault.{Fault}
-use Rattle.fault.specs.declared.Judged.{Judged}
-use Rattle.fault.specs.declared.Judged.TheVariants.{Sound, FaultAt}
+use Rattle.fault.specs.Judged.{Judged}
 use Rattle.fault.specs.declared.Part.{Part}
 use Rattle.fault.specs.declared.Part.TheVariants.{Directory, Head, Page, Writing, Kinds}
 use Rattle.fault.specs.Numbers.{fault_in, no_place}
@@ -21,14 +20,14 @@ use Rattle.rules.specs.Sound.{head_slots, page_slots, level_slots, entries_of, f
 
 -- What a test finds: nothing where it passes, else a fault.
 abbrev pub unless : Bool → Fault → Judged
-unless true f = Sound
-unless false f = FaultAt f
+unless true f = Ok tt
+unless false f = Err f
 
 -- Of tests in order, what the first finds that finds a fault.
 unfoldable pub first_fault : List Judged → Judged
-first_fault [] = Sound
-first_fault (Sound ∷ js) = first_fault js
-first_fault (FaultAt f ∷ js) = FaultAt f
+first_fault [] = Ok tt
+first_fault (Ok tt ∷ js) = first_fault js
+first_fault (Err f ∷ js) = Err f
 
 -- 11 and 12: the head, and the form of a page ----------------------------------------------------------------------------------------------
 

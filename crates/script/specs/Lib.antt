@@ -1,2 +1,2 @@
--- A number of four bytes.
+-- A number of four bytes, and a geometry of three numbers.
 pub mod Word

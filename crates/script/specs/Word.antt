@@ -1,7 +1,8 @@
--- The number of four bytes, the lowest first. Assumes nothing.
+-- The number of four bytes, the lowest first, and the geometry of three numbers. Assumes nothing.
 use Rattle.std.specs.Prelude.{ℕ, ◌+◌, ◌*◌, ◌≤◌, ◌<◌, ◌≡◌, cond, List, leb, length, get_or}
 use Rattle.std.proofs.Common.{le-leb}
 use Rattle.std.proofs.lemmas.Bool.{lt-leb}
+use Rattle.geometry.specs.declared.Geometry.{Geometry}
 
 abbrev pub of_bytes : ℕ → ℕ → ℕ → ℕ → ℕ
 of_bytes a b c d = a + 256 * b + 65536 * (c + 256 * d)
@@ -17,3 +18,7 @@ word_there s at h = rw (le-leb (at + 4) (length s) h)
 pub word_past : (s : List ℕ) (at : ℕ) → length s < at + 4 → 0 ≡ word_at s at
 unfolding word_at
 word_past s at h = rw (lt-leb (at + 4) (length s) h)
+
+-- The geometry of three numbers: the head's capacity, the ratio and the number of levels.
+abbrev pub geometry_at : List ℕ → ℕ → Geometry
+geometry_at s at = record { head = word_at s at; ratio = word_at s (at + 4); levels = word_at s (at + 8) }

@@ -1,26 +1,42 @@
 // Numbers in a script of bytes, as the programs read them that run what the second program wrote.
 #![tactic(auto)]
 
-ghost use Rattle.std.specs.Prelude.{◌≡◌, ◌<◌};
-ghost use Rattle.script.specs.Word.{word_at};
+ghost use Rattle.std.specs.Prelude.{◌+◌, ◌≤◌, ◌≡◌, length};
+ghost use Rattle.slot.specs.Pair.{pair};
+ghost use Rattle.script.specs.Word.{word_at, geometry_at};
+
+use geometry::Geometry;
+use slot::{Pair, Rid};
 
 // The 32-bit number at a place, lowest byte first, and 0 where fewer than four bytes are left.
 pub fn word_at(script: &[u8], at: usize) -> u32
     ensures { result ≡ word_at script.now at }
 {
-    if script.len() < 4 {
+    if script.len().saturating_sub(at) < 4 {
         return 0;
     }
-    if script.len() - 4 < at {
-        return 0;
-    }
-    let low = wide(script[at]) + 256 * wide(script[at + 1]);
-    low + 65536 * (wide(script[at + 2]) + 256 * wide(script[at + 3]))
+    u32::from_le_bytes([script[at], script[at + 1], script[at + 2], script[at + 3]])
 }
 
-fn wide(x: u8) -> u32
-    ensures value { result ≡ x }
-    ensures upper_bound { result < 256 }
+// A badge and a floor.
+pub fn pair_at(script: &[u8], at: usize) -> Pair
+    requires { at ≤ length script.now + 16 }
+    ensures { result ≡ pair (word_at script.now at) (word_at script.now (at + 4)) }
 {
-    x as u32
+    Pair {
+        badge: word_at(script, at),
+        floor: Rid(word_at(script, at + 4)),
+    }
+}
+
+// H, k and l.
+pub fn geometry_at(script: &[u8], at: usize) -> Geometry
+    requires { at ≤ length script.now + 16 }
+    ensures { result ≡ geometry_at script.now at }
+{
+    Geometry {
+        head: word_at(script, at),
+        ratio: word_at(script, at + 4),
+        levels: word_at(script, at + 8),
+    }
 }

@@ -2,164 +2,122 @@
 ghost use Rattle.std.specs.Prelude.{◌≤◌, length};
 ghost use Rattle.sequences.specs.Fit.{Fit, WorkFit};
 
-use crate::digests::{Digest, add_word, add_words};
-use crate::draws::{draw, draw_pair};
+use crate::digests::Digest;
 use crate::{Sequence, State, number_words};
-use index::{EditReply, ask_reply, check_reply, edit_reply, list_reply};
+use index::{ask_reply, check_reply, edit_reply, list_reply};
 use slot::Pair;
 
 // The reply to a put into a full store.
 const FULL: u32 = 4;
 
 // Makes one call.
-pub fn call(s: Sequence, state: State, store: &mut [u32], work: &mut [u32]) -> State
+pub fn call(s: Sequence, state: &mut State, store: &mut [u32], work: &mut [u32])
     requires fit { Fit s (length store.old) }
     requires work_fit { WorkFit (length work.old) }
 {
-    let drawn = draw(state.x, 64);
-    let choice = drawn.number;
-    let before = state.replies;
-    let state = noted(state, drawn.x, before);
-    if choice < 52 {
-        let first = choice < 44;
-        if first == state.filling {
-            return put_call(s, state, store, work, 0);
-        }
-        return drop_call(s, state, store, work);
-    }
-    if choice < 61 {
-        return ask_call(s, state, store);
-    }
+    let choice = state.draws.number(64);
     match choice {
+        0..=51 if (choice < 44) == state.filling => put_call(s, state, store, work, 0),
+        0..=51 => drop_call(s, state, store, work),
+        52..=60 => ask_call(s, state, store),
         61 => put_call(s, state, store, work, 1),
         62 => list_call(s, state, store),
         _ => check_call(state, store),
     }
 }
 
-// A state after a call that leaves the mode as it is.
-fn noted(state: State, x: u32, replies: Digest) -> State {
-    State {
-        x,
-        filling: state.filling,
-        replies,
-    }
-}
-
 // Puts a pair. It is lent the work area without its last `short` words.
-fn put_call(s: Sequence, state: State, store: &mut [u32], work: &mut [u32], short: usize) -> State
+fn put_call(s: Sequence, state: &mut State, store: &mut [u32], work: &mut [u32], short: usize)
     requires fit { Fit s (length store.old) }
     requires short_in_bounds { short ≤ length work.old }
 {
-    let drawn = draw_pair(state.x, s.most);
-    let pair = drawn.pair;
+    let pair = state.draws.pair(s.most);
     let lent = work.len() - short;
-    let reply = edit_reply(index::put(store, &mut work[0..lent], pair));
-    let values = reply.values;
-    let before = state.replies;
-    let replies = add_reply(before, reply.number, &values, &values);
-    if reply.number != FULL {
-        return noted(state, drawn.x, replies);
-    }
-    let next = draw(drawn.x, 4);
-    State {
-        x: next.x,
-        filling: state.filling && next.number != 0,
-        replies,
+    let reply = edit_reply(index::put(store, &mut work[..lent], pair));
+    add_reply(
+        &mut state.replies,
+        reply.number,
+        &reply.values,
+        &reply.values,
+    );
+    if reply.number == FULL && state.draws.number(4) == 0 {
+        state.filling = false;
     }
 }
 
-fn drop_call(s: Sequence, state: State, store: &mut [u32], work: &mut [u32]) -> State
+fn drop_call(s: Sequence, state: &mut State, store: &mut [u32], work: &mut [u32])
     requires { Fit s (length store.old) }
 {
-    let drawn = draw_pair(state.x, s.most);
-    let pair = drawn.pair;
+    let pair = state.draws.pair(s.most);
     let reply = edit_reply(index::drop(store, work, pair));
-    let values = reply.values;
-    let before = state.replies;
-    State {
-        x: drawn.x,
-        filling: state.filling || is_low(s.most, reply),
-        replies: add_reply(before, reply.number, &values, &values),
+    add_reply(
+        &mut state.replies,
+        reply.number,
+        &reply.values,
+        &reply.values,
+    );
+    // Accepted, and a quarter of the most live pairs is left, or fewer.
+    if reply.number == 0 && reply.values[0] <= s.most / 4 {
+        state.filling = true;
     }
-}
-
-// Whether a drop was accepted and left a quarter of the most live pairs, or fewer.
-fn is_low(most: u32, reply: EditReply) -> bool {
-    reply.number == 0 && reply.values[0] <= most / 4
 }
 
 // Asks for a pair, and why the answer is as it is.
-fn ask_call(s: Sequence, state: State, store: &[u32]) -> State
+fn ask_call(s: Sequence, state: &mut State, store: &[u32])
     requires { Fit s (length store.now) }
 {
-    let drawn = draw_pair(state.x, s.most);
-    let pair = drawn.pair;
-    let before = state.replies;
+    let pair = state.draws.pair(s.most);
     let reply = ask_reply(index::ask(store, pair));
-    let values = reply.values;
-    let answer = [values[0], values[1]];
-    let asked = add_reply(before, reply.number, &answer, &values);
-    noted(state, drawn.x, add_why(asked, store, pair))
+    add_reply(
+        &mut state.replies,
+        reply.number,
+        &reply.values[..2],
+        &reply.values,
+    );
+    add_why(&mut state.replies, store, pair);
 }
 
-fn add_why(replies: Digest, store: &[u32], pair: Pair) -> Digest {
-    let mut trail = [0u32; 22];
+fn add_why(replies: &mut Digest, store: &[u32], pair: Pair) {
+    let mut trail = [0; 22];
     let reply = ask_reply(index::why(store, pair, &mut trail));
-    add_reply(replies, reply.number, &trail, &trail)
+    add_reply(replies, reply.number, &trail, &trail);
 }
 
-fn check_call(state: State, store: &[u32]) -> State {
-    let before = state.replies;
+fn check_call(state: &mut State, store: &[u32]) {
     let reply = check_reply(index::check(store));
-    let values = reply.values;
-    let answer = [values[0]];
-    noted(
-        state,
-        state.x,
-        add_reply(before, reply.number, &answer, &values),
-    )
+    add_reply(
+        &mut state.replies,
+        reply.number,
+        &reply.values[..1],
+        &reply.values,
+    );
 }
 
 // Lists from one pair to another into fewer than 50 words.
-fn list_call(s: Sequence, state: State, store: &[u32]) -> State
+fn list_call(s: Sequence, state: &mut State, store: &[u32])
     requires { Fit s (length store.now) }
 {
-    let first = draw_pair(state.x, s.most);
-    let second = draw_pair(first.x, s.most);
-    let drawn = draw(second.x, 50);
-    let mut slice = [0u32; 50];
+    let first = state.draws.pair(s.most);
+    let second = state.draws.pair(s.most);
+    let n = state.draws.number(50) as usize;
+    let mut slice = [0; 50];
     number_words(&mut slice, 1000);
-    let n = drawn.number as usize;
-    let before = state.replies;
-    let replies = add_list(before, store, first.pair, second.pair, &mut slice[0..n]);
-    noted(state, drawn.x, replies)
+    add_list(&mut state.replies, store, first, second, &mut slice[..n]);
 }
 
 // Lists into a slice, whose words are given to the digest too.
-fn add_list(
-    replies: Digest,
-    store: &[u32],
-    first: Pair,
-    second: Pair,
-    slice: &mut [u32],
-) -> Digest {
+fn add_list(replies: &mut Digest, store: &[u32], first: Pair, second: Pair, slice: &mut [u32]) {
     let reply = list_reply(index::list(store, first, second, slice));
-    let values = reply.values;
-    let answer = [values[0], values[1]];
-    add_words(add_reply(replies, reply.number, &answer, &values), slice)
+    add_reply(replies, reply.number, &reply.values[..2], &reply.values);
+    replies.add_words(slice);
 }
 
-// The digest of replies with a reply: its number, and then what an answer tells, or of a refusal the first three values.
-fn add_reply(replies: Digest, number: u32, answer: &[u32], values: &[u32]) -> Digest {
-    let told = add_word(replies, number);
+// Gives a reply to the digest: its number, and then what an answer tells, or of a refusal the first three values.
+fn add_reply(replies: &mut Digest, number: u32, answer: &[u32], values: &[u32]) {
+    replies.add_word(number);
     if number == 0 {
-        return add_words(told, answer);
+        replies.add_words(answer);
+    } else if let Some(place) = values.get(..3) {
+        replies.add_words(place);
     }
-    if values.len() < 3 {
-        return told;
-    }
-    let level = add_word(told, values[0]);
-    let page = add_word(level, values[1]);
-    add_word(page, values[2])
 }

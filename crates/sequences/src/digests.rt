@@ -1,49 +1,30 @@
-// A digest of words: FNV-1a of 64 bits over each word's four bytes, lowest first, kept in two halves so that no sum wraps.
-ghost use Rattle.std.specs.Prelude.{◌<◌};
+// A digest of words: FNV-1a of 64 bits over each word's four bytes, lowest first.
 
 #[derive(Clone, Copy)]
-pub struct Digest {
-    pub high: u32,
-    pub low: u32,
-}
+pub struct Digest(pub u64);
 
-// The digest of no words.
-pub fn no_words() -> Digest {
-    Digest {
-        high: 3421674724,
-        low: 2216829733,
+const PRIME: u64 = 1099511628211;
+
+impl Digest {
+    // The digest of no words.
+    pub const EMPTY: Digest = Digest(14695981039346656037);
+
+    // The digest of words.
+    pub fn of(words: &[u32]) -> Digest {
+        let mut digest = Digest::EMPTY;
+        digest.add_words(words);
+        digest
     }
-}
 
-// A digest with words more.
-pub fn add_words(digest: Digest, words: &[u32]) -> Digest {
-    let mut told = digest;
-    for word in words {
-        told = add_word(told, *word);
+    pub fn add_words(&mut self, words: &[u32]) {
+        for word in words {
+            self.add_word(*word);
+        }
     }
-    told
-}
 
-// A digest with one word more.
-pub fn add_word(digest: Digest, word: u32) -> Digest {
-    let one = add_byte(digest, word % 256);
-    let two = add_byte(one, word / 256 % 256);
-    let three = add_byte(two, word / 65536 % 256);
-    add_byte(three, word / 16777216)
-}
-
-fn add_byte(digest: Digest, byte: u32) -> Digest {
-    let low = wide(digest.low ^ byte);
-    let scaled = low * 435;
-    let high = wide(digest.high) * 435 + scaled / 4294967296 + low % 16777216 * 256;
-    Digest {
-        high: (high % 4294967296) as u32,
-        low: (scaled % 4294967296) as u32,
+    pub fn add_word(&mut self, word: u32) {
+        for byte in word.to_le_bytes() {
+            self.0 = (self.0 ^ u64::from(byte)).wrapping_mul(PRIME);
+        }
     }
-}
-
-fn wide(x: u32) -> u64
-    ensures { result < 4294967296 }
-{
-    x as u64
 }

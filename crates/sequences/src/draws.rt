@@ -3,48 +3,30 @@ ghost use Rattle.std.specs.Prelude.{◌<◌, ◌≤◌};
 
 use slot::{Pair, Rid};
 
-// A number drawn, with the state of the congruence after it.
+// The state of the congruence.
 #[derive(Clone, Copy)]
-pub struct Drawn {
-    pub number: u32,
-    pub x: u32,
-}
+pub struct Draws(pub u32);
 
-// A pair drawn likewise.
-#[derive(Clone, Copy)]
-pub struct DrawnPair {
-    pub pair: Pair,
-    pub x: u32,
-}
-
-// The next number, below n.
-pub fn draw(x: u32, n: u32) -> Drawn
-    requires { 0 < n }
-    ensures { result.number < n }
-{
-    let next = (x as u64 * 1664525 + 1013904223) % 4294967296;
-    Drawn {
-        number: (next / 65536 % n as u64) as u32,
-        x: next as u32,
+impl Draws {
+    // The next number, below n.
+    pub fn number(&mut self, n: u32) -> u32
+        requires { 0 < n }
+        ensures { result < n }
+    {
+        self.0 = self.0.wrapping_mul(1664525).wrapping_add(1013904223);
+        self.0 / 65536 % n
     }
-}
 
-// The next pair, one of 2M where M is the most live pairs: 32 to a badge, and the greatest pair there is.
-pub fn draw_pair(x: u32, most: u32) -> DrawnPair
-    requires { (1 ≤ most) × (most ≤ 32768) }
-{
-    let drawn = draw(x, 2 * most);
-    let v = drawn.number;
-    if v + 1 == 2 * most {
-        return DrawnPair {
-            pair: pair_of(4294967295, 4294967295),
-            x: drawn.x,
-        };
-    }
-    let floor = if v % 32 == 31 { 4294967295 } else { v % 32 };
-    DrawnPair {
-        pair: pair_of(v / 32, floor),
-        x: drawn.x,
+    // The next pair, one of 2M where M is the most live pairs: 32 to a badge, and the greatest pair there is.
+    pub fn pair(&mut self, most: u32) -> Pair
+        requires { (1 ≤ most) × (most ≤ 32768) }
+    {
+        let v = self.number(2 * most);
+        if v + 1 == 2 * most {
+            return pair_of(u32::MAX, u32::MAX);
+        }
+        let floor = if v % 32 == 31 { u32::MAX } else { v % 32 };
+        pair_of(v / 32, floor)
     }
 }
 

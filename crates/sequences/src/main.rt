@@ -15,10 +15,11 @@ mod lines;
 
 use calls::call;
 use damage::damage_word;
-use digests::{Digest, add_word, no_words};
+use digests::Digest;
+use draws::Draws;
 use geometry::{Geometry, Plan};
 use lines::{digest_line, title_line};
-use script::word_at;
+use script::{geometry_at, word_at};
 use std::io;
 use std::io::Read;
 
@@ -37,10 +38,10 @@ pub struct Sequence {
     pub damage: u32,
 }
 
-// A sequence between two calls: the number drawn last, the mode, the digest of replies.
+// A sequence between two calls: where the congruence stands, the mode, the digest of replies.
 #[derive(Clone, Copy)]
 pub struct State {
-    pub x: u32,
+    pub draws: Draws,
     pub filling: bool,
     pub replies: Digest,
 }
@@ -90,16 +91,6 @@ fn make(
     run(rt, s, &mut store[0..words], &mut work[0..room])
 }
 
-fn geometry_at(list: &[u8], at: usize) -> Geometry
-    requires { at < length list.now }
-{
-    Geometry {
-        head: word_at(list, at),
-        ratio: word_at(list, at + 4),
-        levels: word_at(list, at + 8),
-    }
-}
-
 fn sequence_at(list: &[u8], at: usize, g: Geometry, plan: Plan) -> Sequence
     requires at_in_bounds { at < length list.now }
     requires in_range { InRange g }
@@ -124,12 +115,12 @@ fn run(rt: &impl Print, s: Sequence, store: &mut [u32], work: &mut [u32]) -> io:
 {
     title_line(rt, s)?;
     let mut state = State {
-        x: s.seed,
+        draws: Draws(s.seed),
         filling: true,
-        replies: no_words(),
+        replies: Digest::EMPTY,
     };
     for made in 0..s.calls {
-        state = turn(rt, s, state, made + 1, store, work)?;
+        turn(rt, s, &mut state, made + 1, store, work)?;
     }
     Ok(())
 }
@@ -138,54 +129,48 @@ fn run(rt: &impl Print, s: Sequence, store: &mut [u32], work: &mut [u32]) -> io:
 fn turn(
     rt: &impl Print,
     s: Sequence,
-    before: State,
+    state: &mut State,
     calls: u32,
     store: &mut [u32],
     work: &mut [u32],
-) -> io::Result<State>
+) -> io::Result<()>
     requires fit { Fit s (length store.old) }
     requires work_fit { WorkFit (length work.old) }
     requires le_calls { 1 ≤ calls }
 {
-    let ready = prepare(s, before, calls - 1, store, work);
-    let after = call(s, ready, store, work);
+    prepare(s, state, calls - 1, store, work);
+    call(s, state, store, work);
     if is_told(s, calls) {
-        digest_line(rt, calls, store, work, after)?;
+        digest_line(rt, calls, store, work, state)?;
     }
-    Ok(after)
+    Ok(())
 }
 
 // Whether a line is printed after `calls` calls.
 fn is_told(s: Sequence, calls: u32) -> bool {
-    if calls == s.calls {
-        return true;
-    }
-    if s.interval == 0 {
-        return true;
-    }
-    calls % s.interval == 0
+    calls == s.calls || s.interval == 0 || calls % s.interval == 0
 }
 
 // What comes before a call: a numbered work area after a merge, a fresh store, damage.
-fn prepare(s: Sequence, state: State, calls: u32, store: &mut [u32], work: &mut [u32]) -> State
+fn prepare(s: Sequence, state: &mut State, calls: u32, store: &mut [u32], work: &mut [u32])
     requires fit { Fit s (length store.old) }
     requires work_fit { WorkFit (length work.old) }
 {
     renew(work);
     if s.damage == 0 {
         if calls == 0 {
-            return start(s, state, store, work);
+            start(s, state, store, work);
         }
-        return state;
+        return;
     }
-    let place = calls as u64 % (s.damage as u64 + 8);
+    let damage = u64::from(s.damage);
+    let place = u64::from(calls) % (damage + 8);
     if place == 0 {
-        return start(s, state, store, work);
+        start(s, state, store, work);
+    } else if place == damage {
+        damage_word(s, &mut state.draws, store);
+        damage_word(s, &mut state.draws, store);
     }
-    if place == s.damage as u64 {
-        return damaged_twice(s, state, store);
-    }
-    state
 }
 
 // Numbers the words of a work area that a merge erased.
@@ -198,39 +183,14 @@ fn renew(work: &mut [u32])
 }
 
 // Starts anew: a formatted store, a numbered work area, filling.
-fn start(s: Sequence, state: State, store: &mut [u32], work: &mut [u32]) -> State
+fn start(s: Sequence, state: &mut State, store: &mut [u32], work: &mut [u32])
     requires { WorkFit (length work.old) }
 {
-    clear_words(store);
+    store.fill(0);
     number_words(work, 0);
-    let g = s.geometry;
-    let number = index::format_reply(index::format(store, g));
-    let replies = state.replies;
-    State {
-        x: state.x,
-        filling: true,
-        replies: add_word(add_word(replies, number), 0),
-    }
-}
-
-// Damages two words of the store.
-fn damaged_twice(s: Sequence, state: State, store: &mut [u32]) -> State
-    requires { Fit s (length store.old) }
-{
-    let x = damage_word(s, state.x, store);
-    let replies = state.replies;
-    State {
-        x: damage_word(s, x, store),
-        filling: state.filling,
-        replies,
-    }
-}
-
-// Every word becomes 0.
-fn clear_words(words: &mut [u32]) {
-    for word in words.iter_mut() {
-        *word = 0;
-    }
+    state.filling = true;
+    let number = index::format_reply(index::format(store, s.geometry));
+    state.replies.add_words(&[number, 0]);
 }
 
 // Word j becomes first + j.

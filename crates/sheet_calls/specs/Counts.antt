@@ -1,6 +1,6 @@
 -- What the calls of a sheet leave: the stored geometry stays, and the four counts that an accepted put or drop returns are those of the store as it
 -- stands then; a refusal leaves the store. Assumes nothing.
-use Rattle.std.specs.Prelude.{ℕ, zero, suc, ◌<◌, ◌≡◌, Bool, List, [], get_or, drop, ltb, eqb}
+use Rattle.std.specs.Prelude.{ℕ, zero, suc, ◌<◌, ◌≡◌, Bool, List, get_or, drop, ltb, eqb}
 use Rattle.std.proofs.Common.{arith}
 use Rattle.std.proofs.Math.Path.{refl}
 use Rattle.std.proofs.Math.Bool.{true, false}
@@ -11,13 +11,12 @@ use Rattle.slot.specs.declared.Pair.{Pair}
 use Rattle.rules.specs.Tree.{Entry}
 use Rattle.rules.specs.Merging.{entries, State}
 use Rattle.rules.specs.Store.{writing, laid_out, directory}
-use Rattle.fault.specs.declared.Judged.{Judged}
-use Rattle.fault.specs.declared.Judged.TheVariants.{Sound, FaultAt}
+use Rattle.fault.specs.Judged.{Judged}
+use Rattle.std.specs.Prelude.{Err, Ok}
 use Rattle.rules.specs.Sound.{tree_of, head_slots}
 use Rattle.rules.specs.Faults.{fault}
 use Rattle.geometry.specs.Directory.{geometry_of}
-use Rattle.walk.specs.declared.Walked.{Walked}
-use Rattle.walk.specs.declared.Walked.TheVariants.{Found, Fault as FaultWalked}
+use Rattle.walk.specs.Walked.{Walked}
 use Rattle.walk.specs.Walk.{walked}
 use Rattle.edited.specs.Reach.{reach}
 use Rattle.change.specs.Change.{head_edited, edited_behind, fills_head, Changed, changed_head, changed_tree, stayed, merged_change, change_of}
@@ -68,11 +67,11 @@ module _ (w work : List ℕ) where
     where
       by : (fills : Bool) (f : Judged) →
           Left w (changed_reply (elim fills as (λ _. Changed) [
-            | true ↦ elim f as (λ _. Changed) [ Sound ↦ changed_tree g e w work | FaultAt i ↦ stayed i w work ]
+            | true ↦ elim f as (λ _. Changed) [ (Ok tt) ↦ changed_tree g e w work | Err i ↦ stayed i w work ]
             | false ↦ changed_head g e own w work
           ]))
-      by true Sound = accepted refl refl (written_geometry g _)
-      by true (FaultAt i) = fault_left i w work
+      by true (Ok tt) = accepted refl refl (written_geometry g _)
+      by true (Err i) = fault_left i w work
       by false f = accepted refl refl (edited_geometry e (reach e.pair (head_slots g w)) own w)
 
   module _ (p : Pair) (level : ℕ) where
@@ -111,6 +110,6 @@ module _ (w work : List ℕ) where
       found false held level = drop_leaves p level held
 
       opened : (n : ℕ) (f : Walked) → Left w (after_opening w work n (after_walk w work f (found_of w work normal p)))
-      opened zero (Found held level) = found normal held level
-      opened zero (FaultWalked f) = fault_left f w work
+      opened zero (Ok f) = found normal f.held f.level
+      opened zero (Err f) = fault_left f w work
       opened (suc n) f = refused n refl refl

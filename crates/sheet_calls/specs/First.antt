@@ -1,5 +1,5 @@
 -- The store that the first call finds: it is formatted from zeros, and has no entries. Assumes nothing.
-use Rattle.std.specs.Prelude.{ℕ, ◌<◌, ◌≡◌, refl, List, [], ◌∷◌, length, replicate}
+use Rattle.std.specs.Prelude.{ℕ, ◌<◌, ◌≡◌, refl, List, [], ◌∷◌, length, replicate, Result, ⊤}
 use Rattle.std.proofs.Common.{arith, ◌∙◌, eq-eqb}
 use Rattle.std.proofs.Math.Path.{sym, ap}
 use Rattle.std.proofs.lemmas.List.{length-replicate}
@@ -15,7 +15,7 @@ use Rattle.geometry.specs.Directory.{geometry_of}
 use Rattle.good.specs.Format.{formatted_levels, formatted_good}
 use Rattle.promises.specs.Written.{good_tree}
 use Rattle.opening.specs.Reply.{Filled}
-use Rattle.call_format.specs.declared.Formatted.{Formatted}
+use Rattle.opening.specs.declared.Unopened.{Unopened}
 use Rattle.call_format.specs.Format.{format_reply, format_of, format_done_lem}
 use Rattle.sheet_calls.specs.declared.Progress.{Progress}
 use Rattle.sheet_calls.specs.Calls.{first_store}
@@ -31,7 +31,7 @@ pub record Begun (g : Geometry) (store : List ℕ) (progress : Progress) : Type 
   pub long : live_word < length store
 
 -- Formatting zeros gives the first store.
-formats : (g : Geometry) (a : Formatted) (w v : List ℕ) → w ≡ replicate (store_words g) 0 → format_reply a v ≡ format_of w g → v ≡ first_store g
+formats : (g : Geometry) (a : Result ⊤ Unopened) (w v : List ℕ) → w ≡ replicate (store_words g) 0 → format_reply a v ≡ format_of w g → v ≡ first_store g
 unfolding first_store
 formats g a w v z e = ap (λ (f : Filled). f.words) e ∙ ap (λ (l : List ℕ). (format_of l g).words) z
 
@@ -56,7 +56,7 @@ module _ (g : Geometry) (fit : InRange g) where
   unfolding empty_store writing laid_out directory
   first_long = rw first_empty (omega arith)
 
-  pub begins : (a : Formatted) (w v : List ℕ) → w ≡ replicate (store_words g) 0 → format_reply a v ≡ format_of w g →
+  pub begins : (a : Result ⊤ Unopened) (w v : List ℕ) → w ≡ replicate (store_words g) 0 → format_reply a v ≡ format_of w g →
       Begun g v (record { told = 0; pages = 0; entries = 0 ∷ 0 ∷ 0 ∷ 0 ∷ [] })
   begins a w v z e =
       let first : v ≡ first_store g = formats g a w v z e in

@@ -1,5 +1,5 @@
 -- What each call adds to the progress of those made so far. Assumes nothing.
-use Rattle.std.specs.Prelude.{ℕ, ◌+◌, ◌≤◌, ◌≡◌, refl, Bool, List, get_or}
+use Rattle.std.specs.Prelude.{ℕ, ◌+◌, ◌≤◌, ◌≡◌, refl, Bool, List, get_or, Result}
 use Rattle.std.proofs.Common.{add-zero, arith, ◌∙◌}
 use Rattle.std.proofs.Math.Path.{sym, ap}
 use borrow.Author.Tests.{ne_eqb}
@@ -9,7 +9,8 @@ use Rattle.rules.specs.Sound.{tree_of}
 use Rattle.geometry.specs.Directory.{geometry_of}
 use Rattle.opening.specs.Reply.{Reply, replied}
 use Rattle.call_put.specs.declared.Changed.{Changed}
-use Rattle.call_ask.specs.declared.Asked.{Asked}
+use Rattle.walk.specs.declared.Found.{Found}
+use Rattle.opening.specs.declared.Refusal.{Refusal}
 use Rattle.call_ask.specs.Ask.{ask_reply, ask_of}
 use Rattle.call_put.specs.Edit.{Kept, edited_reply, edit_reply, edit_of, put_of, drop_of}
 use Rattle.reading.specs.declared.Operation.{Operation}
@@ -96,7 +97,7 @@ module _ (store work : List ℕ) (progress : Progress) (counted : Counted progre
         geometry = stays.1;
       }
 
-  pub ask_called : (p : Pair) (a : Asked) {held : ℕ} → ask_reply a ≡ ask_of store p → (held ≡ held_number (ask_reply a)) × (held ≤ 1) → r ≡ only_told held progress →
+  pub ask_called : (p : Pair) (a : Result Found Refusal) {held : ℕ} → ask_reply a ≡ ask_of store p → (held ≡ held_number (ask_reply a)) × (held ≤ 1) → r ≡ only_told held progress →
       Calling (record { told = held_number (ask_of store p); store = store; work = work; pages = 0 }) store progress store work r
   ask_called p a {held} e h t = rw t (record {
     told = h.0 ∙ ap held_number e;

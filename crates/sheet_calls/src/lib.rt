@@ -1,7 +1,7 @@
 // The calls of a sheet, made one by one on a lent store and work area, and what they have come to so far.
 #![tactic(auto)]
 
-ghost use Rattle.std.specs.Prelude.{◌*◌, ◌<◌, ◌≤◌, ◌≡◌, replicate};
+ghost use Rattle.std.specs.Prelude.{◌*◌, ◌≤◌, ◌≡◌, replicate};
 ghost use Rattle.geometry.specs.Geometry.{InRange};
 ghost use Rattle.geometry.specs.Places.{store_words};
 ghost use Rattle.call_ask.specs.Ask.{ask_reply};
@@ -10,9 +10,11 @@ ghost use Rattle.sheet_calls.specs.Calls.{held_number, made};
 ghost use Rattle.sheet_calls.specs.Stepping.{only_told, Changing, Counted, Calling};
 ghost use Rattle.sheet_calls.specs.First.{Begun};
 
+use call_ask::Refusal;
+use call_put::Changed;
 use geometry::Geometry;
-use index::{Asked, Changed};
 use reading::{Operation, Request};
+use walk::Found;
 
 // What the calls made so far come to: the number that the last one told, the pages that all of them wrote, and the index entries in each level.
 #[derive(Clone, Copy)]
@@ -28,7 +30,7 @@ pub fn begin(store: &mut [u32], g: Geometry) -> Progress
     requires store_value { store.old ≡ replicate (store_words g) 0 }
     ensures { Begun g store.new result }
 {
-    index::format(store, g);
+    let _ = index::format(store, g);
     Progress {
         told: 0,
         pages: 0,
@@ -47,12 +49,10 @@ pub fn make_call(
     requires pages_bound { progress.pages ≤ 4294967296 * 16384 }
     ensures { Calling (made request store.old work.old) store.old progress store.new work.new result }
 {
-    let operation = request.operation;
-    let pair = request.pair;
-    match operation {
-        Operation::Put => after_change(index::put(store, work, pair), progress),
-        Operation::Drop => after_change(index::drop(store, work, pair), progress),
-        Operation::Ask => only_told(held_number(index::ask(store, pair)), progress),
+    match request.operation {
+        Operation::Put => after_change(index::put(store, work, request.pair), progress),
+        Operation::Drop => after_change(index::drop(store, work, request.pair), progress),
+        Operation::Ask => only_told(held_number(index::ask(store, request.pair)), progress),
     }
 }
 
@@ -62,15 +62,13 @@ fn after_change(changed: Changed, progress: Progress) -> Progress
     ensures { Changing (edited_reply changed.answer changed.entries) changed.entries progress result }
 {
     let entries = changed.entries;
-    let reply = index::edit_reply(changed);
-    let values = reply.values;
-    if reply.number != 0 {
-        return only_told(reply.number as u64, progress);
-    }
-    Progress {
-        told: 0,
-        pages: progress.pages + wide(values[2]),
-        entries,
+    match changed.answer {
+        Ok(done) => Progress {
+            told: 0,
+            pages: progress.pages + u64::from(done.pages),
+            entries,
+        },
+        Err(_) => only_told(u64::from(index::edit_reply(changed).number), progress),
     }
 }
 
@@ -78,28 +76,18 @@ fn after_change(changed: Changed, progress: Progress) -> Progress
 fn only_told(number: u64, progress: Progress) -> Progress
     ensures { result ≡ only_told number progress }
 {
-    let entries = progress.entries;
     Progress {
         told: number,
-        pages: progress.pages,
-        entries,
+        ..progress
     }
 }
 
 // 1 if the pair is held, 0 if not.
-fn held_number(answer: Asked) -> u64
+fn held_number(answer: Result<Found, Refusal>) -> u64
     ensures { (result ≡ held_number (ask_reply answer)) × (result ≤ 1) }
 {
-    let reply = index::ask_reply(answer);
-    let values = reply.values;
-    if reply.number != 0 {
-        return 0;
+    match answer {
+        Ok(found) => u64::from(found.held),
+        Err(_) => 0,
     }
-    wide(values[0])
-}
-
-fn wide(n: u32) -> u64
-    ensures { (result ≡ n) × (result < 4294967296) }
-{
-    n as u64
 }

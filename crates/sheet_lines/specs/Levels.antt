@@ -3,7 +3,9 @@ use Rattle.std.specs.Prelude.{ℕ, zero, suc, ◌+◌, ◌*◌, ◌≤◌, ◌<�
 use Rattle.std.proofs.Common.{add-one, arith, sym, ap, ◌∙◌, append-nil, append_assoc, take-suc}
 use Rattle.std.proofs.Math.Path.{refl}
 use Rattle.laws.specs.Lists.{concat}
+use Rattle.printing.specs.declared.Text.{Text}
 use Rattle.printing.specs.Printed.{Printed, printed_none, printed_then}
+use Rattle.printing.specs.Grown.{Grown, grown_then}
 use Rattle.printing.specs.Line.{line}
 use Rattle.sheet_lines.specs.Lines.{live_name, pages_name, level_name, all_levels, level_lines, last_lines}
 
@@ -56,3 +58,8 @@ pub last_printed : (w : List ℕ) (at levels live : ℕ) (counts : List ℕ) (pa
     Printed v a (level_lines levels counts) u b → Printed u b (line pages_name pages) x c → Printed w at (last_lines levels live counts pages) x c
 unfolding last_lines
 last_printed w at levels live counts pages p q r = printed_then p (printed_then q r)
+
+pub last_grown : {t u v x : Text} (levels live : ℕ) (counts : List ℕ) (pages : ℕ) → Grown t (line live_name live) u → Grown u (level_lines levels counts) v →
+    Grown v (line pages_name pages) x → Grown t (last_lines levels live counts pages) x
+unfolding last_lines
+last_grown levels live counts pages p q r = grown_then p (grown_then q r)

@@ -2,7 +2,7 @@
 use Prim.Native.Nat.{ℕ, ◌+◌, ◌*◌, ◌≤◌}
 use Rattle.std.proofs.Math.Nat.{zero-add}
 use Rattle.std.proofs.Common.{arith, ◌∙◌, length-append, drop_of_length-le}
-use Rattle.std.specs.Prelude.{◌≡◌, get_or}
+use Rattle.std.specs.Prelude.{◌≡◌, get_or, Err}
 use Rattle.std.proofs.Math.Path.{refl, sym, ap}
 use mathlib.Core.List.{List, [], ◌∷◌, ◌++◌}
 use Rattle.std.proofs.Math.ListN.{length}
@@ -18,7 +18,6 @@ use Rattle.lines.specs.Lines.{lines_of}
 use Rattle.lines.specs.Judged.{Judged, faulty, good}
 use Rattle.lines.specs.Told.{ahead}
 use Rattle.reading.specs.declared.Request.{Request}
-use Rattle.reading.specs.declared.Group.TheVariants.{Faulty}
 use Rattle.reading.specs.Sheet.{joined, requests_from}
 use Rattle.reading.specs.Told.{Requested, GroupAs, Ready}
 use Rattle.sheet_lines.specs.Lines.{name_of, last_lines}
@@ -69,7 +68,7 @@ module _ (input : List ℕ) (g : Geometry) (start : List ℕ) where
 
   module _ (at end : ℕ) (progress : Progress) (store work out : List ℕ) (c : Playing input g start at end progress store work out) where
     -- No group of a sheet without fault is faulty.
-    pub play_faultless : (k : ℕ) → GroupAs input at (Faulty k) → ⊥
+    pub play_faultless : (k : ℕ) → GroupAs input at (Err k) → ⊥
     play_faultless k e =
         let apart : good c.requests ≡ faulty (c.number + k) = sym c.follow ∙ e.1 c.number in let z : ◌≡◌ {A = ℕ} 0 1 = cc in omega arith
 

@@ -3,15 +3,15 @@
 
 ghost use Rattle.std.specs.Prelude.{◌≤◌, ◌≡◌, length, replicate};
 ghost use Rattle.geometry.specs.Places.{store_words};
+ghost use Rattle.printing.specs.Grown.{Grown};
 ghost use Rattle.printing.specs.Printed.{Printed};
 ghost use Rattle.reading.specs.Sheet.{most_words};
 ghost use Rattle.reading.specs.Told.{Ready};
 ghost use Rattle.sheet_calls.specs.Calls.{first_work};
 ghost use Rattle.sheet_text.specs.Text.{sheet_of, text_room, printed_in};
-ghost use Rattle.sheet_text.specs.Playing.{Within};
 
-use geometry::Geometry;
-use reading::{Group, Judgement};
+use printing::Text;
+use reading::Heading;
 use sheet_calls::{begin, make_call};
 use sheet_lines::{call_line, fault_line, last_lines};
 
@@ -26,31 +26,44 @@ pub fn run_sheet(input: &[u8], out: &mut [u8]) -> usize
     if out.len() < TEXT_ROOM {
         return 0;
     }
+    let mut text = Text { room: out, end: 0 };
+    print_sheet(input, &mut text);
+    text.end
+}
+
+// Puts the text of a sheet, or its first faulty line.
+fn print_sheet(input: &[u8], text: &mut Text)
+    requires at_start { text.old.end ≡ 0 }
+    requires text_room_in_bounds { text_room ≤ length text.old.room.now }
+    ensures grown { Grown text.old (sheet_of input.now) text.new }
+    ensures fits { text.new.end ≤ length text.old.room.now }
+{
     match reading::judge(input) {
-        Judgement::Faulty(line) => fault_line(out, line),
-        Judgement::Good(geometry, at) => run_judged(input, at, geometry, out),
+        Ok(heading) => run_judged(input, heading, text),
+        Err(line) => fault_line(text, line),
     }
 }
 
-// The text of a sheet without fault, whose requests begin at a place.
-fn run_judged(input: &[u8], at: usize, g: Geometry, out: &mut [u8]) -> usize
-    requires ready { Ready input.now g at }
-    requires text_room_in_bounds { text_room ≤ length out.old }
-    ensures { Within out.old (sheet_of input.now) out.new result }
+// The text of a sheet without fault.
+fn run_judged(input: &[u8], heading: Heading, text: &mut Text)
+    requires ready { Ready input.now heading.geometry heading.next }
+    requires at_start { text.old.end ≡ 0 }
+    requires text_room_in_bounds { text_room ≤ length text.old.room.now }
+    ensures grown { Grown text.old (sheet_of input.now) text.new }
+    ensures fits { text.new.end ≤ length text.old.room.now }
 {
-    let plan = geometry::plan_for(g);
+    let plan = geometry::plan_for(heading.geometry);
     let store_words = plan.store_words as usize;
     let work_words = plan.work_words as usize;
     let mut store = zeros();
     let mut work = zeros();
     make_calls(
         input,
-        at,
-        g,
+        heading,
         &mut store[0..store_words],
         &mut work[0..work_words],
-        out,
-    )
+        text,
+    );
 }
 
 // Zeros, as many words as the longest store of a sheet has.
@@ -61,39 +74,30 @@ fn zeros() -> [u32; 4096]
 }
 
 // Formats a store of zeros, makes the calls that the requests ask for on it, each with its line, and prints the last lines.
-fn make_calls(
-    input: &[u8],
-    from: usize,
-    g: Geometry,
-    store: &mut [u32],
-    work: &mut [u32],
-    out: &mut [u8],
-) -> usize
-    requires ready { Ready input.now g from }
-    requires store_value { store.old ≡ replicate (store_words g) 0 }
-    requires work_value { work.old ≡ first_work g }
-    requires text_room_in_bounds { text_room ≤ length out.old }
-    ensures { Within out.old (sheet_of input.now) out.new result }
+fn make_calls(input: &[u8], heading: Heading, store: &mut [u32], work: &mut [u32], text: &mut Text)
+    requires ready { Ready input.now heading.geometry heading.next }
+    requires store_value { store.old ≡ replicate (store_words heading.geometry) 0 }
+    requires work_value { work.old ≡ first_work heading.geometry }
+    requires at_start { text.old.end ≡ 0 }
+    requires text_room_in_bounds { text_room ≤ length text.old.room.now }
+    ensures grown { Grown text.old (sheet_of input.now) text.new }
+    ensures fits { text.new.end ≤ length text.old.room.now }
 {
-    let mut progress = begin(store, g);
-    let mut end = 0;
-    let mut at = from;
+    let mut progress = begin(store, heading.geometry);
+    let mut at = heading.next;
     while at < input.len() {
-        let Group::Read(request, next) = reading::read_group(input, at) else {
-            return 0;
+        let Ok(group) = reading::read_group(input, at) else {
+            return;
         };
-        progress = make_call(store, work, request, progress);
-        let operation = request.operation;
-        end = call_line(out, end, operation, progress.told);
-        at = next;
+        progress = make_call(store, work, group.request, progress);
+        call_line(text, group.request.operation, progress.told);
+        at = group.next;
     }
-    let entries = progress.entries;
     last_lines(
-        out,
-        end,
-        g.levels,
+        text,
+        heading.geometry.levels,
         store[geometry::LIVE],
-        entries,
+        progress.entries,
         progress.pages,
-    )
+    );
 }

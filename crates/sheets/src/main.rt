@@ -2,8 +2,6 @@
 // prints its number, from 1, and its text.
 #![tactic(auto)]
 
-ghost use Rattle.std.specs.Prelude.{min, ◌≡◌};
-
 use sheet_text::TEXT_ROOM;
 use std::io;
 use std::io::Read;
@@ -23,7 +21,9 @@ fn run_sheets(rt: &impl Print, sheets: &[u8], out: &mut [u8]) -> io::Result<()> 
     let mut number: usize = 0;
     while at + 4 <= sheets.len() {
         let from = at + 4;
-        let to = least(from + script::word_at(sheets, at) as usize, sheets.len());
+        let to = sheets
+            .len()
+            .min(from + script::word_at(sheets, at) as usize);
         number += 1;
         title_line(rt, number)?;
         run_one(rt, &sheets[from..to], out)?;
@@ -39,10 +39,4 @@ fn title_line(rt: &impl Print, number: usize) -> io::Result<()> {
 fn run_one(rt: &impl Print, sheet: &[u8], out: &mut [u8]) -> io::Result<()> {
     let length = sheet_text::run_sheet(sheet, out);
     rt.write_all(&out[..length])
-}
-
-fn least(a: usize, b: usize) -> usize
-    ensures { result ≡ min a b }
-{
-    if a < b { a } else { b }
 }

@@ -1,9 +1,6 @@
 -- Tag = 4 × page number + kind, made and taken apart, with the round trip. Assumes nothing.
-use Rattle.std.specs.Prelude.{ℕ, zero, suc, ◌+◌, ◌*◌, ◌/◌, ◌%◌, ◌<◌, ◌≡◌, refl}
-use Rattle.std.proofs.Common.{arith}
-use Rattle.slot.specs.declared.Pid.{Pid}
-use Rattle.slot.specs.declared.Kind.{Kind}
-use Rattle.slot.specs.declared.Kind.TheVariants.{Normal, Filter, External, Internal}
+use Rattle.std.specs.Prelude.{◌≡◌, refl}
+use Rattle.slot.specs.declared.Kind.TheVariants.{External}
 use Rattle.slot.specs.Tag.{page_back, page_of, tag_of}
 
 -- The bench table's case 9: a fence to page 300 has tag 1202, and reads back as 300.

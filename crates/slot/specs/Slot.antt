@@ -1,11 +1,8 @@
 -- A slot's three words: badge, floor, tag. Read from words and made into words, with the round trip. Assumes nothing.
-use Rattle.std.specs.Prelude.{ℕ, suc, ◌+◌, ◌≤◌, ◌≡◌, List, [], ◌∷◌, length, get_or}
-use Rattle.std.proofs.Common.{add-one, arith}
-use Rattle.std.proofs.Math.Numerals.{add-two, add-three}
-use Rattle.std.proofs.Math.Seq.{slice, slice-cons, slice_empty}
+use Rattle.std.specs.Prelude.{ℕ, ◌+◌, List, [], ◌∷◌, get_or}
 use Rattle.slot.specs.declared.Slot.{Slot}
 use Rattle.slot.specs.Pair.{pair}
-use Rattle.slot.specs.Tag.{kind_of, page_of, tag_of, tag_again}
+use Rattle.slot.specs.Tag.{kind_of, page_of, tag_of}
 
 -- The slot whose three words begin at a place.
 unfoldable pub slot_at : List ℕ → ℕ → Slot

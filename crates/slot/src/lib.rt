@@ -8,25 +8,25 @@ ghost use Rattle.slot.specs.Tag.{kind_number, kind_of, page_of, tag_of};
 ghost use Rattle.slot.specs.Slot.{slot_at, words_of};
 
 // A page number within a level, pid.
-#[derive(Clone, Copy)]
+#[derive(Clone, Copy, PartialEq, Eq, PartialOrd, Ord)]
 pub struct Pid(pub u32);
 
 // A floor, rid.
-#[derive(Clone, Copy)]
+#[derive(Clone, Copy, PartialEq, Eq, PartialOrd, Ord)]
 pub struct Rid(pub u32);
 
 // A slot's number within its page or the head.
-#[derive(Clone, Copy)]
+#[derive(Clone, Copy, PartialEq, Eq, PartialOrd, Ord)]
 pub struct SlotNo(pub u32);
 
-#[derive(Clone, Copy)]
+#[derive(Clone, Copy, PartialEq, Eq, PartialOrd, Ord)]
 pub struct Pair {
     pub badge: u32,
     pub floor: Rid,
 }
 
 // Index entries are normal or filters; fences are external or internal.
-#[derive(Clone, Copy)]
+#[derive(Clone, Copy, PartialEq, Eq)]
 pub enum Kind {
     Normal,
     Filter,
@@ -35,7 +35,7 @@ pub enum Kind {
 }
 
 // What three words hold. An index entry's page number is 0 in a store that is sound.
-#[derive(Clone, Copy)]
+#[derive(Clone, Copy, PartialEq, Eq)]
 pub struct Slot {
     pub pair: Pair,
     pub kind: Kind,
@@ -52,7 +52,7 @@ pub fn least_pair() -> Pair
     }
 }
 
-// Whether a comes before b in the order of pairs.
+// Whether a comes before b in the order of pairs: by rank, which takes no branch.
 pub fn comes_before(a: Pair, b: Pair) -> bool
     ensures { result ≡ before a b }
 {
@@ -63,23 +63,21 @@ pub fn comes_before(a: Pair, b: Pair) -> bool
 pub fn same_pair(a: Pair, b: Pair) -> bool
     ensures { result ≡ same a b }
 {
-    rank_of(a) == rank_of(b)
+    a == b
 }
 
 // A pair's place in the order of pairs: by badge, then floor.
 pub fn rank_of(pair: Pair) -> u64
     ensures { result ≡ rank pair }
 {
-    let floor = pair.floor;
-    4294967296 * pair.badge as u64 + floor.0 as u64
+    4294967296 * u64::from(pair.badge) + u64::from(pair.floor.0)
 }
 
 // The kind of a tag: its remainder by 4.
 pub fn kind_of(tag: u32) -> Kind
     ensures { result ≡ kind_of tag }
 {
-    let number = tag % 4;
-    match number {
+    match tag % 4 {
         0 => Kind::Normal,
         1 => Kind::Filter,
         2 => Kind::External,
@@ -99,18 +97,20 @@ pub fn tag_of(kind: Kind, page: Pid) -> u32
     requires { page.0 < 2 ^ 30 }
     ensures { result ≡ tag_of kind page }
 {
-    4 * page.0 + kind_number(kind)
+    4 * page.0 + u32::from(kind)
 }
 
 // The number of a kind in a tag.
-pub fn kind_number(kind: Kind) -> u32
-    ensures { result ≡ kind_number kind }
-{
-    match kind {
-        Kind::Normal => 0,
-        Kind::Filter => 1,
-        Kind::External => 2,
-        Kind::Internal => 3,
+impl From<Kind> for u32 {
+    ghost from_gives = { λ kind n. n ≡ kind_number kind };
+
+    fn from(kind: Kind) -> u32 {
+        match kind {
+            Kind::Normal => 0,
+            Kind::Filter => 1,
+            Kind::External => 2,
+            Kind::Internal => 3,
+        }
     }
 }
 
@@ -136,12 +136,7 @@ pub fn write_slot(words: &mut [u32], place: usize, slot: Slot)
     requires page_bound { slot.page.0 < 2 ^ 30 }
     ensures { words.new ≡ sets words.old place (words_of slot) }
 {
-    let pair = slot.pair;
-    let floor = pair.floor;
-    let kind = slot.kind;
-    let page = slot.page;
-    let tag = tag_of(kind, page);
-    words[place] = pair.badge;
-    words[place + 1] = floor.0;
-    words[place + 2] = tag;
+    words[place] = slot.pair.badge;
+    words[place + 1] = slot.pair.floor.0;
+    words[place + 2] = tag_of(slot.kind, slot.page);
 }

@@ -1,7 +1,7 @@
 -- The tests of one level, and tests one by one, as the clauses of src/lib.rt cite them. Assumes nothing.
 use Prim.Native.Nat.{ℕ, zero, suc, ◌+◌, ◌-◌, ◌/◌, ◌%◌, ◌≤◌, ◌<◌}
 use Rattle.std.proofs.Common.{arith, eqb-true}
-use Rattle.std.specs.Prelude.{◌≡◌, Bool, true, false, cond, List, [], ◌∷◌, get_or, ltb, leb, eqb}
+use Rattle.std.specs.Prelude.{◌≡◌, Bool, true, false, cond, List, [], ◌∷◌, get_or, ltb, leb, eqb, Some, Err, Ok}
 use Rattle.std.proofs.Math.Path.{refl}
 use Rattle.laws.specs.Lists.{span, all, span_next, span_end}
 use Rattle.laws.specs.Flat.{all_span}
@@ -13,8 +13,7 @@ use Rattle.geometry.specs.Lent.{Lent}
 use Rattle.geometry.proofs.Lent.{capacities_at}
 use Rattle.slot.specs.declared.Pair.{Pair}
 use Rattle.fault.specs.declared.Fault.{Fault}
-use Rattle.fault.specs.declared.Judged.{Judged}
-use Rattle.fault.specs.declared.Judged.TheVariants.{Sound, FaultAt}
+use Rattle.fault.specs.Judged.{Judged}
 use Rattle.fault.specs.declared.Part.TheVariants.{Directory, Head, Page, Writing}
 use Rattle.fault.specs.Numbers.{fault_in, no_place}
 use Rattle.rules.specs.Sound.{directory_right, head_right, page_formed, head_sound, level_sound, within_capacity}
@@ -23,7 +22,7 @@ use Rattle.rules.specs.Faultless.{forms_sound}
 use Rattle.geometry.specs.Directory.{pages_of}
 use Rattle.form.specs.declared.HeadRead.{HeadRead}
 use Rattle.form.specs.declared.PageRead.{PageRead}
-use Rattle.form.specs.Passes.{head_scanned, page_scanned}
+use Rattle.form.specs.Passes.{head_scanned, page_scanned, head_flaw, page_flaw}
 
 -- A level's capacity, read from the list of capacities.
 unfoldable pub capacity_holds : List ℕ → Geometry → ℕ → ℕ → Bool
@@ -41,54 +40,54 @@ capacity_holds_lem g plan w l i n h = by_place (eqb i (bottom g)) refl
 
 -- Tests one by one: one that passes, the first that fails, and the end.
 module _ (f : ℕ → Judged) (i n : ℕ) where
-  pub test_passes : i < n → f i ≡ Sound → first_fault (span f i (n - i)) ≡ first_fault (span f (i + 1) (n - (i + 1)))
+  pub test_passes : i < n → f i ≡ Ok tt → first_fault (span f i (n - i)) ≡ first_fault (span f (i + 1) (n - (i + 1)))
   unfolding first_fault
   test_passes h e = rw (span_next f i n h, e)
 
-  pub test_fails : (x : Fault) → i < n → f i ≡ FaultAt x → first_fault (span f i (n - i)) ≡ FaultAt x
+  pub test_fails : (x : Fault) → i < n → f i ≡ Err x → first_fault (span f i (n - i)) ≡ Err x
   unfolding first_fault
   test_fails x h e = rw (span_next f i n h, e)
 
-  pub tests_end : n ≤ i → first_fault (span f i (n - i)) ≡ Sound
+  pub tests_end : n ≤ i → first_fault (span f i (n - i)) ≡ Ok tt
   unfolding first_fault
   tests_end h = rw (span_end f i n h)
 
 -- The whole, by the first part that fails.
 module _ (g : Geometry) (w : List ℕ) where
-  pub fault_directory : directory_right g w ≡ false → FaultAt (no_place Directory) ≡ fault g w
+  pub fault_directory : directory_right g w ≡ false → Err (no_place Directory) ≡ fault g w
   unfolding fault first_fault
   fault_directory e = rw e
 
   module _ (right : directory_right g w ≡ true) where
-    pub fault_head : head_right g w ≡ false → FaultAt (head_fault g w) ≡ fault g w
+    pub fault_head : head_right g w ≡ false → Err (head_fault g w) ≡ fault g w
     unfolding fault first_fault
     fault_head e = rw (right, e)
 
     module _ (head : head_right g w ≡ true) where
-      pub fault_form : (x : Fault) → form_faults g w ≡ FaultAt x → FaultAt x ≡ fault g w
+      pub fault_form : (x : Fault) → form_faults g w ≡ Err x → Err x ≡ fault g w
       unfolding fault first_fault
       fault_form x e = rw (right, head, e)
 
-      pub fault_deeper : form_faults g w ≡ Sound → first_fault (writing_faults g w ∷ across_fault g w ∷ []) ≡ fault g w
+      pub fault_deeper : form_faults g w ≡ Ok tt → first_fault (writing_faults g w ∷ across_fault g w ∷ []) ≡ fault g w
       unfolding fault first_fault
       fault_deeper e = rw (right, head, e)
 
   -- The slot that a pass over the head or a page tells is the fault's.
-  pub head_told : (asked : Pair) {c : HeadRead} → c ≡ head_scanned g w asked → fault_in Head 0 0 c.slot ≡ head_fault g w
-  unfolding head_fault head_scanned
-  head_told asked e = rw e
+  pub head_told : (asked : Pair) {c : HeadRead} → c ≡ head_scanned g w asked → {slot : ℕ} → c.flaw ≡ Some slot → fault_in Head 0 0 slot ≡ head_fault g w
+  unfolding head_fault
+  head_told asked e f = rw (head_flaw g w asked e f).1
 
-  pub page_told : (asked : Pair) (i p : ℕ) {c : PageRead} → c ≡ page_scanned g w asked i p → fault_in Page i p c.slot ≡ page_fault g w i p
-  unfolding page_fault page_scanned
-  page_told asked i p e = rw e
+  pub page_told : (asked : Pair) (i p : ℕ) {c : PageRead} → c ≡ page_scanned g w asked i p → {slot : ℕ} → c.flaw ≡ Some slot → fault_in Page i p slot ≡ page_fault g w i p
+  unfolding page_fault
+  page_told asked i p e f = rw (page_flaw g w asked i p e f).1
 
   -- The test of a level's writing, and of the head's, by what the code finds.
-  pub level_written_lem : (i : ℕ) → level_sound g w i ≡ true → writing_fault g w i ≡ Sound
+  pub level_written_lem : (i : ℕ) → level_sound g w i ≡ true → writing_fault g w i ≡ Ok tt
   unfolding writing_fault
   level_written_lem i e = rw e
 
   pub level_miswritten : (i : ℕ) → 1 ≤ i → level_sound g w i ≡ false → {n : ℕ} → n ≡ level_wrong g w i →
-      writing_fault g w i ≡ FaultAt (fault_in Writing i (n / slots_in_page) (n % slots_in_page))
+      writing_fault g w i ≡ Err (fault_in Writing i (n / slots_in_page) (n % slots_in_page))
   unfolding writing_fault page_size
   level_miswritten zero l e n = absurd (omega arith)
   level_miswritten (suc i) l e n = rw (e, n)
@@ -98,7 +97,7 @@ module _ (g : Geometry) (w : List ℕ) where
   head_written_lem e = rw e
 
   pub head_miswritten : head_sound g w ≡ false → {n : ℕ} → n ≡ head_leaves g w →
-      FaultAt (fault_in Writing 0 (n / head_room g) (n % head_room g)) ≡ writing_faults g w
+      Err (fault_in Writing 0 (n / head_room g) (n % head_room g)) ≡ writing_faults g w
   unfolding writing_faults first_fault page_size
   head_miswritten e n = rw (e, n)
 
@@ -111,5 +110,5 @@ module _ (g : Geometry) (w : List ℕ) where
   form_begins i = refl
 
   -- The pages of every level are formed.
-  pub all_formed : form_faults g w ≡ Sound → (i : ℕ) → 1 ≤ i → i < g.levels → all (page_formed g w i) (span (λ p. p) 0 (pages_of g w i)) ≡ true
+  pub all_formed : form_faults g w ≡ Ok tt → (i : ℕ) → 1 ≤ i → i < g.levels → all (page_formed g w i) (span (λ p. p) 0 (pages_of g w i)) ≡ true
   all_formed e i l u = all_span (page_formed g w i) (λ p. p) 0 (pages_of g w i) (λ p b. forms_sound g w e i p l u (omega arith))

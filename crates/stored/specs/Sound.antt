@@ -1,6 +1,6 @@
 -- A store passes the whole-store test exactly if it is the writing of a good state: the state that its words hold. Assumes nothing.
 use Rattle.std.specs.Prelude.{ℕ, ◌≤◌, ◌<◌, ◌≡◌, true, List, length, get_or}
-use Rattle.fault.specs.declared.Judged.TheVariants.{Sound}
+use Rattle.std.specs.Prelude.{Ok}
 use Rattle.geometry.specs.declared.Geometry.{Geometry}
 use Rattle.geometry.specs.Geometry.{InRange}
 use Rattle.geometry.specs.Places.{live_word, store_words}
@@ -19,7 +19,7 @@ use Rattle.stored.specs.Told.{parts, good}
 use Rattle.stored.specs.Passes.{passes}
 
 -- A store that passes is the writing of the state that it holds.
-pub sound_written : (g : Geometry) (w : List ℕ) → InRange g → geometry_of w ≡ g → length w ≡ store_words g → WordsFit w → fault g w ≡ Sound →
+pub sound_written : (g : Geometry) (w : List ℕ) → InRange g → geometry_of w ≡ g → length w ≡ store_words g → WordsFit w → fault g w ≡ Ok tt →
     (w ≡ writing g (state_of g w)) × Good g (state_of g w)
 unfolding writing state_of
 sound_written g w fit e whole words h =
@@ -31,7 +31,7 @@ sound_written g w fit e whole words h =
 -- The writing of a good state passes, and is read back.
 pub written_sound : (g : Geometry) (s : State) → InRange g → Good g s → Fits g (slots_of s.tree) → directory_right g (writing g s) ≡ true →
     head_right g (writing g s) ≡ true → ((i p : ℕ) → 1 ≤ i → i < g.levels → p < pages_of g (writing g s) i → page_formed g (writing g s) i p ≡ true) →
-    (fault g (writing g s) ≡ Sound) × (tree_of g (writing g s) ≡ s.tree)
+    (fault g (writing g s) ≡ Ok tt) × (tree_of g (writing g s) ≡ s.tree)
 unfolding writing
 written_sound g s fit good fits right head_right_lem formed =
     let w = laid_out g s.live (slots_of s.tree) in

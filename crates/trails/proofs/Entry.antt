@@ -1,6 +1,6 @@
 -- An index entry of a pair among slots in order is the last slot at most the pair, so it decides; where the slots leave it undecided, there is
 -- none. Assumes nothing.
-use Rattle.std.specs.Prelude.{ℕ, zero, suc, ◌-◌, ◌≤◌, ◌≡◌, Bool, ◌&&◌, get_or}
+use Rattle.std.specs.Prelude.{ℕ, zero, suc, ◌≤◌, ◌≡◌, Bool, get_or}
 use Rattle.std.proofs.Common.{arith, sym, ◌∙◌}
 use Rattle.std.proofs.Math.Path.{refl, ap}
 use Rattle.std.proofs.Math.Bool.{true, false, not}
@@ -15,7 +15,7 @@ use Rattle.slot.specs.declared.Slot.{Slot}
 use Rattle.slot.specs.Pair.{least, before, same}
 use Rattle.slot.specs.Order.{before_below, same_level}
 use Rattle.rules.specs.Level.{external, fence_kind}
-use Rattle.rules.specs.Finding.{Told, decided, follow, nothing, normal_kind, at_most, step_back, tell_from, tell}
+use Rattle.rules.specs.Finding.{decided, nothing, normal_kind, at_most, step_back, tell_from, tell}
 use Rattle.rules.specs.Sound.{in_order}
 use Rattle.page.specs.Form.{order_rest, at_most_first, none_at_most, none_after_entry}
 use Rattle.trails.specs.Entry.{ReachesEntry, is_entry_of, no_entry_of, slot_reached, slot_reached_lem, steps_undecided}

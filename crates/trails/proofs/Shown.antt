@@ -1,6 +1,6 @@
 -- What a line of a trail told, its own slots show: where it decides, the slot that it reached is an index entry of the pair; where it tells a page to
 -- follow, or nothing, none of its slots is. Assumes nothing.
-use Rattle.std.specs.Prelude.{ℕ, zero, suc, ◌≡◌, Bool, cond, length, get_or, ltb, leb}
+use Rattle.std.specs.Prelude.{ℕ, suc, ◌≡◌, Bool, cond, length, get_or, ltb, leb}
 use Rattle.std.proofs.Common.{arith}
 use Rattle.std.proofs.Math.Path.{refl}
 use Rattle.std.proofs.Math.Bool.{true, false, not}
@@ -17,11 +17,10 @@ use Rattle.rules.specs.Finding.{Told, decided, follow, nothing, tell}
 use Rattle.rules.specs.Sound.{head_slots, page_slots, entries_of, in_order, legal, fence_pages, first_is_least, head_right, count_right, page_formed, page_right}
 use Rattle.rules.specs.Faults.{head_fault, walk_fault}
 use Rattle.form.specs.Passes.{head_scanned, page_scanned}
-use Rattle.walk.specs.Stepping.{Step}
-use Rattle.walk.specs.Stepping.{Decided, Follow, Nothing, Broken}
+use Rattle.walk.specs.Stepping.{Broken}
 use Rattle.walk.specs.Step.{step_of, head_step, page_step}
-use Rattle.walk.specs.Trail.{Line, head_line, page_line}
-use Rattle.trails.specs.Entry.{no_entry_of, ReachesEntry}
+use Rattle.walk.specs.Trail.{head_line, page_line}
+use Rattle.trails.specs.Entry.{no_entry_of}
 use Rattle.trails.proofs.Entry.{undecided_none, decided_reaches}
 use Rattle.trails.specs.Shown.{LineShows, Shows, run_of}
 

@@ -1,13 +1,12 @@
 -- On the writing of a good state the line that decides stands at the topmost entry of the pair in the tree, and the pages that the trail reads are those
 -- of the walk on slots. Assumes nothing.
-use Rattle.std.specs.Prelude.{ℕ, suc, ◌<◌, ◌≡◌, length}
+use Rattle.std.specs.Prelude.{◌≡◌}
 use Rattle.std.proofs.Common.{arith}
 use Rattle.geometry.specs.declared.Geometry.{Geometry}
 use Rattle.geometry.specs.Geometry.{InRange}
 use Rattle.slot.specs.declared.Pair.{Pair}
-use Rattle.rules.specs.Tree.{level}
 use Rattle.rules.specs.Level.{slots_of}
-use Rattle.rules.specs.Finding.{absent, met, find, held, ask}
+use Rattle.rules.specs.Finding.{held, ask}
 use Rattle.rules.specs.Merging.{State}
 use Rattle.rules.specs.Store.{writing}
 use Rattle.rules.specs.Good.{Good}
@@ -16,8 +15,6 @@ use Rattle.finding.specs.Asked.{decider, absent_above_decider, met_at_decider}
 use Rattle.finding.specs.Walked.{walked_reads}
 use Rattle.good.proofs.Cascade.{good_fits}
 use Rattle.promises.specs.Written.{good_reads, good_walks}
-use Rattle.trails.specs.Entry.{ReachesEntry}
-use Rattle.trails.specs.Decides.{line_at, run_at}
 use Rattle.trails.proofs.Decides.{deciding_line}
 use Rattle.trails.specs.Topmost.{Topmost}
 

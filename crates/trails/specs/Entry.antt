@@ -1,23 +1,17 @@
 -- An index entry of a pair among slots in order is the last slot at most the pair, so it decides; where the slots leave it undecided, there is
 -- none. Assumes nothing.
-use Rattle.std.specs.Prelude.{ℕ, zero, suc, ◌-◌, ◌≤◌, ◌≡◌, Bool, ◌&&◌, get_or}
-use Rattle.std.proofs.Common.{arith, sym, ◌∙◌}
-use Rattle.std.proofs.Math.Path.{refl, ap}
+use Rattle.std.specs.Prelude.{ℕ, suc, ◌-◌, ◌≤◌, ◌≡◌, Bool, ◌&&◌, get_or}
+use Rattle.std.proofs.Common.{arith}
+use Rattle.std.proofs.Math.Path.{ap}
 use Rattle.std.proofs.Math.Bool.{true, false, not}
-use mathlib.Core.List.{List, [], ◌∷◌, reverse, reverse_aux}
-use Rattle.std.proofs.Math.ListN.{length, take}
-use borrow.Author.Tests.{not-true}
-use Rattle.laws.specs.Tests.{and_left, and_right}
-use Rattle.laws.specs.Lists.{passing, all, passing_yes, passing_no, passing_small, reverse_take}
-use Rattle.laws.specs.Flat.{all_join}
+use mathlib.Core.List.{List, [], ◌∷◌}
+use Rattle.std.proofs.Math.ListN.{length}
+use Rattle.laws.specs.Lists.{all}
 use Rattle.slot.specs.declared.Pair.{Pair}
 use Rattle.slot.specs.declared.Slot.{Slot}
-use Rattle.slot.specs.Pair.{least, before, same}
-use Rattle.slot.specs.Order.{before_below, same_level}
+use Rattle.slot.specs.Pair.{least, same}
 use Rattle.rules.specs.Level.{external, fence_kind}
-use Rattle.rules.specs.Finding.{Told, decided, follow, nothing, normal_kind, at_most, step_back, tell_from, tell}
-use Rattle.rules.specs.Sound.{in_order}
-use Rattle.page.specs.Form.{order_rest, at_most_first, none_at_most, none_after_entry}
+use Rattle.rules.specs.Finding.{Told, decided, follow, normal_kind, step_back}
 
 -- An index entry, so no fence, of just that pair; slots that have none.
 unfoldable pub is_entry_of : Pair → Slot → Bool

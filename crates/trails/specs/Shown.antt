@@ -1,26 +1,15 @@
 -- What a line of a trail told, its own slots show: where it decides, the slot that it reached is an index entry of the pair; where it tells a page to
 -- follow, or nothing, none of its slots is. Assumes nothing.
-use Rattle.std.specs.Prelude.{ℕ, zero, suc, ◌≡◌, Bool, cond, length, get_or, ltb, leb}
-use Rattle.std.proofs.Common.{arith}
-use Rattle.std.proofs.Math.Path.{refl}
-use Rattle.std.proofs.Math.Bool.{true, false, not}
+use Rattle.std.specs.Prelude.{ℕ, zero, suc, ◌≡◌}
+use Rattle.std.proofs.Math.Bool.{true}
 use mathlib.Core.List.{List}
-use Rattle.laws.specs.Tests.{and_left, and_three, and_six}
-use Rattle.laws.specs.Lists.{span, passing, all, equal}
 use Rattle.geometry.specs.declared.Geometry.{Geometry}
-use Rattle.geometry.specs.Places.{head_room, head_count_word}
-use Rattle.geometry.specs.Directory.{pages_of}
 use Rattle.slot.specs.declared.Pair.{Pair}
 use Rattle.slot.specs.declared.Slot.{Slot}
-use Rattle.slot.specs.Pair.{before}
-use Rattle.rules.specs.Finding.{Told, decided, follow, nothing, tell}
-use Rattle.rules.specs.Sound.{head_slots, page_slots, entries_of, in_order, legal, fence_pages, first_is_least, head_right, count_right, page_formed, page_right}
-use Rattle.rules.specs.Faults.{head_fault, walk_fault}
-use Rattle.form.specs.Passes.{head_scanned, page_scanned}
+use Rattle.rules.specs.Sound.{head_slots, page_slots}
 use Rattle.walk.specs.Stepping.{Step}
 use Rattle.walk.specs.Stepping.{Decided, Follow, Nothing, Broken}
-use Rattle.walk.specs.Step.{step_of, head_step, page_step}
-use Rattle.walk.specs.Trail.{Line, head_line, page_line}
+use Rattle.walk.specs.Trail.{Line}
 use Rattle.trails.specs.Entry.{no_entry_of, ReachesEntry}
 
 -- The slots that a line of level i is about: the head's, or those of its page.

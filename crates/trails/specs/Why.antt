@@ -1,13 +1,8 @@
 -- What the lines of a why show, on any words: the entry that decides, and that no page read before it has one. Assumes nothing.
 use Rattle.std.specs.Prelude.{ℕ, suc, ◌≤◌, ◌<◌, ◌≡◌, Bool, true, false, List, length}
-use Rattle.std.proofs.Common.{arith}
-use Rattle.geometry.specs.declared.Geometry.{Geometry}
 use Rattle.geometry.specs.Directory.{geometry_of}
 use Rattle.slot.specs.declared.Pair.{Pair}
-use Rattle.walk.specs.declared.Walked.TheVariants.{Found}
 use Rattle.walk.specs.Trail.{trail}
-use Rattle.opening.specs.Opening.{opened_range}
-use Rattle.call_ask.specs.Ask.{walk_reply, ask_of, ask_found}
 use Rattle.call_why.specs.Why.{why_lines}
 use Rattle.trails.specs.Entry.{ReachesEntry, no_entry_of}
 use Rattle.trails.specs.Decides.{line_at, run_at}

@@ -1,5 +1,5 @@
 -- A trail as 22 words: the values of ask's reply, then five words for each of the levels 0 to 3. Assumes nothing.
-use Rattle.std.specs.Prelude.{ℕ, zero, suc, ◌+◌, ◌*◌, ◌≤◌, ◌≡◌, refl, Bool, true, false, cond, List, [], ◌∷◌, ◌++◌, length, replicate, leb}
+use Rattle.std.specs.Prelude.{ℕ, zero, suc, ◌+◌, ◌*◌, ◌≤◌, ◌≡◌, refl, Bool, true, false, cond, List, [], ◌∷◌, ◌++◌, length, replicate, leb, Result, Ok, Err}
 use Rattle.std.proofs.Common.{arith, length-append}
 use Rattle.std.proofs.lemmas.List.Edits.{sets}
 use Rattle.std.proofs.Math.Seq.{length-sets}
@@ -10,7 +10,8 @@ use Rattle.walk.specs.Stepping.{Decided, Follow, Nothing, Broken}
 use Rattle.fault.specs.declared.Part.{Part}
 use Rattle.walk.specs.declared.Look.{Look}
 use Rattle.walk.specs.declared.Seen.{Seen}
-use Rattle.walk.specs.declared.Seen.TheVariants.{Decided as Decided-seen, Follow as Follow-seen, Nothing as Nothing-seen, Unformed, Unfenced}
+use Rattle.walk.specs.declared.Seen.TheVariants.{Decided as Decided-seen, Follow as Follow-seen, Nothing as Nothing-seen}
+use Rattle.walk.specs.declared.Flaw.{Flaw}
 use Rattle.walk.specs.Stepping.{seen_in}
 use Rattle.walk.specs.Trail.{Line}
 
@@ -29,26 +30,24 @@ follow_number Nothing = 0
 follow_number (Broken f) = 0
 
 -- The same of what was seen, wherever it stands.
-abbrev pub entry_seen : Seen → ℕ
-entry_seen (Decided-seen normal) = cond normal normal_word filter_word
-entry_seen (Follow-seen page) = 0
-entry_seen Nothing-seen = 0
-entry_seen (Unformed slot) = 0
-entry_seen Unfenced = 0
+abbrev pub entry_seen : Result Seen Flaw → ℕ
+entry_seen (Ok (Decided-seen normal)) = cond normal normal_word filter_word
+entry_seen (Ok (Follow-seen page)) = 0
+entry_seen (Ok Nothing-seen) = 0
+entry_seen (Err flaw) = 0
 
-abbrev pub follow_seen : Seen → ℕ
-follow_seen (Decided-seen normal) = 0
-follow_seen (Follow-seen page) = page.0 + 1
-follow_seen Nothing-seen = 0
-follow_seen (Unformed slot) = 0
-follow_seen Unfenced = 0
+abbrev pub follow_seen : Result Seen Flaw → ℕ
+follow_seen (Ok (Decided-seen normal)) = 0
+follow_seen (Ok (Follow-seen page)) = page.0 + 1
+follow_seen (Ok Nothing-seen) = 0
+follow_seen (Err flaw) = 0
 
-pub numbers_seen : (part : Part) (i p : ℕ) (seen : Seen) → (entry_number (seen_in part i p seen) ≡ entry_seen seen) × (follow_number (seen_in part i p seen) ≡ follow_seen seen)
-numbers_seen part i p (Decided-seen normal) = (refl, refl)
-numbers_seen part i p (Follow-seen page) = (refl, refl)
-numbers_seen part i p Nothing-seen = (refl, refl)
-numbers_seen part i p (Unformed slot) = (refl, refl)
-numbers_seen part i p Unfenced = (refl, refl)
+pub numbers_seen : (part : Part) (i p : ℕ) (seen : Result Seen Flaw) →
+    (entry_number (seen_in part i p seen) ≡ entry_seen seen) × (follow_number (seen_in part i p seen) ≡ follow_seen seen)
+numbers_seen part i p (Ok (Decided-seen normal)) = (refl, refl)
+numbers_seen part i p (Ok (Follow-seen page)) = (refl, refl)
+numbers_seen part i p (Ok Nothing-seen) = (refl, refl)
+numbers_seen part i p (Err flaw) = (refl, refl)
 
 -- A level that was read: 1, its page, the number of its slots at most the pair (the last of them is where the walk stopped), the entry
 -- there, and the page followed.

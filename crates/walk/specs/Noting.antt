@@ -1,5 +1,5 @@
 -- A walk and the trail that it notes, step by step: what the loop over the levels keeps. Assumes nothing.
-use Rattle.std.specs.Prelude.{ℕ, ◌+◌, ◌-◌, ◌≤◌, ◌<◌, ◌≡◌, refl, Bool, true, false, List, [], leb}
+use Rattle.std.specs.Prelude.{ℕ, ◌+◌, ◌-◌, ◌≤◌, ◌<◌, ◌≡◌, refl, Bool, true, false, List, leb, Result, Ok, Err}
 use Rattle.std.proofs.Math.Numerals.{add-one}
 use Rattle.std.proofs.Common.{arith, leb-true, leb-false}
 use Rattle.geometry.specs.declared.Geometry.{Geometry}
@@ -8,7 +8,7 @@ use Rattle.geometry.specs.Bounds.{room_small}
 use Rattle.geometry.specs.Directory.{pages_of, pages_none}
 use Rattle.slot.specs.declared.Pair.{Pair}
 use Rattle.slot.specs.declared.Pid.{Pid}
-use Rattle.fault.specs.declared.Fault.{Fault as Fault-told}
+use Rattle.fault.specs.declared.Fault.{Fault}
 use Rattle.fault.specs.declared.Part.TheVariants.{Directory, Head, Page}
 use Rattle.fault.specs.Numbers.{no_place}
 use Rattle.rules.specs.Sound.{directory_right}
@@ -18,11 +18,11 @@ use Rattle.walk.specs.Stepping.{Step}
 use Rattle.walk.specs.Stepping.{Decided, Follow, Nothing, Broken}
 use Rattle.walk.specs.declared.Look.{Look}
 use Rattle.walk.specs.declared.Seen.{Seen}
-use Rattle.walk.specs.declared.Seen.TheVariants.{Decided as Decided-seen, Follow as Follow-seen, Nothing as Nothing-seen, Unformed, Unfenced}
+use Rattle.walk.specs.declared.Seen.TheVariants.{Decided as Decided-seen, Follow as Follow-seen, Nothing as Nothing-seen}
+use Rattle.walk.specs.declared.Flaw.{Flaw}
 use Rattle.fault.specs.declared.Part.{Part}
 use Rattle.walk.specs.Stepping.{seen_in}
-use Rattle.walk.specs.declared.Walked.{Walked}
-use Rattle.walk.specs.declared.Walked.TheVariants.{Found, Fault}
+use Rattle.walk.specs.Walked.{Walked, found}
 use Rattle.walk.specs.Step.{head_step, page_step, StepWithin}
 use Rattle.walk.specs.Walk.{walk_on, walk_from, walked, walk_decided, walk_nothing, walk_broken, walk_into, walk_follows, walk_ends}
 use Rattle.walk.specs.Trail.{head_line, page_line, lines_on, lines_from, trail, walk_lines, lines_decided, lines_nothing, lines_broken, lines_into, lines_follow, lines_end}
@@ -49,16 +49,16 @@ module _ (g : Geometry) (w : List ℕ) (asked : Pair) where
 
   -- The walk ends where a level decides, tells nothing or is broken, and past the bottom.
   module _ (t : List ℕ) (i : ℕ) (step : Step) {whole : Noted} (on : noted_on t i step ≡ whole) where
-    pub ends_decided : {held : Bool} → step ≡ Decided held → record { outcome = Found held i; words = t } ≡ whole
+    pub ends_decided : {held : Bool} → step ≡ Decided held → record { outcome = found held i; words = t } ≡ whole
     unfolding noted_on noted
     ends_decided {held} e =
         rw (e, walk_decided g w asked (g.levels - (i + 1)) i held, lines_decided g w asked (g.levels - (i + 1)) i held) at on
 
-    pub ends_nothing : step ≡ Nothing → record { outcome = Found false g.levels; words = t } ≡ whole
+    pub ends_nothing : step ≡ Nothing → record { outcome = found false g.levels; words = t } ≡ whole
     unfolding noted_on noted
     ends_nothing e = rw (e, walk_nothing g w asked (g.levels - (i + 1)) i, lines_nothing g w asked (g.levels - (i + 1)) i) at on
 
-    pub ends_broken : {f : Fault-told} → step ≡ Broken f → record { outcome = Fault f; words = t } ≡ whole
+    pub ends_broken : {f : Fault} → step ≡ Broken f → record { outcome = Err f; words = t } ≡ whole
     unfolding noted_on noted
     ends_broken {f} e = rw (e, walk_broken g w asked (g.levels - (i + 1)) i f, lines_broken g w asked (g.levels - (i + 1)) i f) at on
 
@@ -67,7 +67,7 @@ module _ (g : Geometry) (w : List ℕ) (asked : Pair) where
     goes_on {page} e = rw (e, walk_follows g w asked i page, lines_follow g w asked i page) at on
 
   pub ends_past : (t : List ℕ) (i page : ℕ) {whole : Noted} → g.levels ≤ i → noted_from t i page ≡ whole →
-      record { outcome = Found false g.levels; words = t } ≡ whole
+      record { outcome = found false g.levels; words = t } ≡ whole
   unfolding noted
   ends_past t i page h e = rw (walk_ends g w asked i page h, lines_end g w asked i page h) at e
 
@@ -85,7 +85,7 @@ module _ (g : Geometry) (w : List ℕ) (asked : Pair) where
     unfolding noted_on noted walked walk_lines trail head_line
     head_noted right first e step reach = rw (e, step, reach, right, first)
 
-  pub directory_noted : (t : List ℕ) → directory_right g w ≡ false → record { outcome = Fault (no_place Directory); words = t } ≡ noted_all t
+  pub directory_noted : (t : List ℕ) → directory_right g w ≡ false → record { outcome = Err (no_place Directory); words = t } ≡ noted_all t
   unfolding noted walked walk_lines
   directory_noted t e = rw e
 
@@ -102,9 +102,8 @@ follow_small g w fit right i (Follow page) least within = omega (arith, within, 
     pages_few false e = omega (arith, pages_none g w i (omega (arith, leb-false i 3 e, fit.levels_most)))
 
 -- Wherever it stands.
-pub seen_small : (n : ℕ) (part other : Part) (i j p q : ℕ) (seen : Seen) → StepWithin n (seen_in part i p seen) → StepWithin n (seen_in other j q seen)
-seen_small n part other i j p q (Decided-seen held) h = tt
-seen_small n part other i j p q (Follow-seen page) h = h
-seen_small n part other i j p q Nothing-seen h = tt
-seen_small n part other i j p q (Unformed slot) h = tt
-seen_small n part other i j p q Unfenced h = tt
+pub seen_small : (n : ℕ) (part other : Part) (i j p q : ℕ) (seen : Result Seen Flaw) → StepWithin n (seen_in part i p seen) → StepWithin n (seen_in other j q seen)
+seen_small n part other i j p q (Ok (Decided-seen held)) h = tt
+seen_small n part other i j p q (Ok (Follow-seen page)) h = h
+seen_small n part other i j p q (Ok Nothing-seen) h = tt
+seen_small n part other i j p q (Err flaw) h = tt

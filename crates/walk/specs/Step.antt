@@ -2,7 +2,7 @@
 use Prim.Native.Nat.{ℕ, suc, ◌+◌, ◌-◌, ◌*◌, ◌<◌, ◌≤◌}
 use Rattle.std.proofs.Common.{le_trans, le_of_eq, sym, ◌∙◌, eqb-true}
 use native.Mathlib.Omega.{arith}
-use Rattle.std.specs.Prelude.{◌≡◌, ◌≢◌, Bool, true, false, not, cond, List, length, eqb}
+use Rattle.std.specs.Prelude.{◌≡◌, ◌≢◌, Bool, true, false, not, cond, List, length, eqb, Option, Some, None}
 use Rattle.std.proofs.Math.Path.{refl}
 use Rattle.std.proofs.lemmas.Bool.{eqb-false}
 use Rattle.laws.specs.Lists.{passing, all, passing_small}
@@ -12,8 +12,6 @@ use Rattle.slot.specs.declared.Pair.{Pair}
 use Rattle.slot.specs.declared.Pid.{Pid}
 use Rattle.slot.specs.Pair.{before}
 use Rattle.slot.specs.Slot.{slot_at}
-use Rattle.page.specs.declared.Met.{Met}
-use Rattle.page.specs.declared.Met.TheVariants.{Absent, Entry}
 use Rattle.page.specs.Tell.{fence_back, met_in}
 use Rattle.page.specs.Told.{length_run, tells_nothing, tells_entry, tells_fence, tells_past, followed_page}
 use Rattle.rules.specs.Level.{fence_kind}
@@ -42,13 +40,13 @@ StepWithin n Nothing = Unit {0}
 StepWithin n (Broken f) = Unit {0}
 
 -- What the slot that a pass reached tells, above the bottom and in it.
-abbrev pub met_above : Met → Pid → Step
-met_above (Entry normal) page = Decided normal
-met_above Absent page = Follow page
+abbrev pub met_above : Option Bool → Pid → Step
+met_above (Some normal) page = Decided normal
+met_above None page = Follow page
 
-abbrev pub met_bottom : Met → Step
-met_bottom (Entry normal) = Decided normal
-met_bottom Absent = Nothing
+abbrev pub met_bottom : Option Bool → Step
+met_bottom (Some normal) = Decided normal
+met_bottom None = Nothing
 
 unfoldable pub above_step : List ℕ → ℕ → ℕ → Pair → Step
 above_step w place last asked = met_above (met_in (slot_at w (place + words_in_slot * last)) asked) (fence_back w place last)
@@ -72,18 +70,18 @@ module _ (w : List ℕ) (place n : ℕ) (asked : Pair) (inner : Bool) (below r :
         last : suc (r - 1) ≡ r
         last = omega arith
 
-        by_entry : (m : Met) → met_in (slot_at w (place + 3 * (r - 1))) asked ≡ m →
+        by_entry : (m : Option Bool) → met_in (slot_at w (place + 3 * (r - 1))) asked ≡ m →
             met_above m (fence_back w place (r - 1)) ≡ step_of (tell asked (slots_from w place n))
-        by_entry (Entry b) e = rw (tells_entry w place n asked order (r - 1) (omega (arith, reach_small)) (last ∙ reaches) b e)
-        by_entry Absent e = rw (tells_fence w place n asked order (r - 1) (omega (arith, reach_small)) (last ∙ reaches) first e)
+        by_entry (Some b) e = rw (tells_entry w place n asked order (r - 1) (omega (arith, reach_small)) (last ∙ reaches) b e)
+        by_entry None e = rw (tells_fence w place n asked order (r - 1) (omega (arith, reach_small)) (last ∙ reaches) first e)
 
     pub above_within : StepWithin below (above_step w place (r - 1) asked)
     unfolding above_step
     above_within = by_entry (met_in (slot_at w (place + 3 * (r - 1))) asked)
       where
-        by_entry : (m : Met) → StepWithin below (met_above m (fence_back w place (r - 1)))
-        by_entry (Entry b) = tt
-        by_entry Absent = followed_page w place n inner below (r - 1) (omega (arith, reach_small)) tags first
+        by_entry : (m : Option Bool) → StepWithin below (met_above m (fence_back w place (r - 1)))
+        by_entry (Some b) = tt
+        by_entry None = followed_page w place n inner below (r - 1) (omega (arith, reach_small)) tags first
 
 -- In the bottom no slot is a fence.
 module _ (w : List ℕ) (place n : ℕ) (asked : Pair) (inner : Bool) (r : ℕ) (order : in_order (slots_from w place n) ≡ true)
@@ -93,10 +91,10 @@ module _ (w : List ℕ) (place n : ℕ) (asked : Pair) (inner : Bool) (r : ℕ) 
   unfolding bottom_step
   bottom_tells = by_reach (eqb r 0) refl
     where
-      met_one : (m : Met) → suc (r - 1) ≡ r → met_in (slot_at w (place + 3 * (r - 1))) asked ≡ m → met_bottom m ≡ step_of (tell asked (slots_from w place n))
-      met_one (Entry b) last e =
+      met_one : (m : Option Bool) → suc (r - 1) ≡ r → met_in (slot_at w (place + 3 * (r - 1))) asked ≡ m → met_bottom m ≡ step_of (tell asked (slots_from w place n))
+      met_one (Some b) last e =
           rw (tells_entry w place n asked order (r - 1) (omega (arith, reach_small w place n asked inner 0 r order tags reaches)) (last ∙ reaches) b e)
-      met_one Absent last e =
+      met_one None last e =
           rw (tells_past w place n asked order (r - 1) (omega (arith, reach_small w place n asked inner 0 r order tags reaches)) (last ∙ reaches) inner tags e)
 
       by_reach : (b : Bool) → eqb r 0 ≡ b → cond b Nothing (met_bottom (met_in (slot_at w (place + 3 * (r - 1))) asked)) ≡ step_of (tell asked (slots_from w place n))
@@ -110,7 +108,7 @@ pub bottom_within : (n : ℕ) (w : List ℕ) (place r : ℕ) (asked : Pair) → 
 unfolding bottom_step
 bottom_within n w place r asked = by_reach (eqb r 0) (met_in (slot_at w (place + 3 * (r - 1))) asked)
   where
-    by_reach : (b : Bool) (m : Met) → StepWithin n (cond b Nothing (met_bottom m))
+    by_reach : (b : Bool) (m : Option Bool) → StepWithin n (cond b Nothing (met_bottom m))
     by_reach true m = tt
-    by_reach false (Entry b) = tt
-    by_reach false Absent = tt
+    by_reach false (Some b) = tt
+    by_reach false None = tt

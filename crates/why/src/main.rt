@@ -7,6 +7,7 @@ use std::alloc::{AllocError, Global};
 use std::env::Env;
 use std::io;
 use std::io::Read;
+use why_text::{Stream, tell_why};
 
 // One byte more than a chip may have.
 const CHIP_ROOM: usize = 492353;
@@ -20,18 +21,17 @@ fn main(rt: HostRuntime) -> io::Result<()> {
     rt.stdin().take(CHIP_ROOM as u64).read_to_end(&mut chip)?;
     let mut words = word_room();
     let mut out = [0u8; 512];
-    let told = why_text::tell_why(
+    let told = tell_why(
         &badge[..badge_length],
         &floor[..floor_length],
         &chip,
         &mut words,
         &mut out,
     );
-    let length = told.length;
-    if told.wrong {
-        rt.stderr().write_all(&out[..length])
-    } else {
-        rt.stdout().write_all(&out[..length])
+    let text = &out[..told.length];
+    match told.stream {
+        Stream::Output => rt.stdout().write_all(text),
+        Stream::Error => rt.stderr().write_all(text),
     }
 }
 

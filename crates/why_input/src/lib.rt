@@ -1,12 +1,12 @@
 // The input of the tool that tells why: a badge and a floor as text, and a chip's bytes. Judged, and a line for what is wrong with it.
 #![tactic(auto)]
 
-ghost use Rattle.std.specs.Prelude.{◌≤◌, ◌≡◌, length};
-ghost use Rattle.printing.specs.Printed.{Printed};
+ghost use Rattle.std.specs.Prelude.{◌+◌, ◌≤◌, ◌≡◌, length};
+ghost use Rattle.printing.specs.Grown.{Grown};
 ghost use Rattle.why_input.specs.Input.{wrong_text, wrong_room, judged_input, ShortIfGood};
 
-use lines::{Numeral, read_numeral};
-use printing::print_bytes;
+use lines::read_numeral;
+use printing::Text;
 use slot::{Pair, Rid};
 
 // The most bytes of a chip: those of the largest geometry's store.
@@ -21,54 +21,35 @@ pub enum Wrong {
     Uneven,
 }
 
-// The pair asked for, or what is wrong with the input.
-#[derive(Clone, Copy)]
-pub enum Judged {
-    Bad(Wrong),
-    Good(Pair),
-}
-
-// Judges the badge, the floor, and then the number of the chip's bytes.
-pub fn judge(badge: &[u8], floor: &[u8], chip: &[u8]) -> Judged
+// The pair asked for, or what is wrong with the input. Judges the badge, the floor, and then the number of the chip's bytes.
+pub fn judge(badge: &[u8], floor: &[u8], chip: &[u8]) -> Result<Pair, Wrong>
     ensures judges { result ≡ judged_input badge.now floor.now chip.now }
     ensures short { ShortIfGood chip.now result }
 {
-    let Numeral::Number(b) = read_numeral(badge) else {
-        return Judged::Bad(Wrong::Badge);
-    };
-    let Numeral::Number(f) = read_numeral(floor) else {
-        return Judged::Bad(Wrong::Floor);
-    };
+    let badge = read_numeral(badge).ok_or(Wrong::Badge)?;
+    let floor = read_numeral(floor).ok_or(Wrong::Floor)?;
     if MOST_BYTES < chip.len() {
-        return Judged::Bad(Wrong::Long);
+        return Err(Wrong::Long);
     }
     if chip.len() % chip::WORD_BYTES != 0 {
-        return Judged::Bad(Wrong::Uneven);
+        return Err(Wrong::Uneven);
     }
-    Judged::Good(Pair {
-        badge: b,
-        floor: Rid(f),
+    Ok(Pair {
+        badge,
+        floor: Rid(floor),
     })
 }
 
-// Puts the line of wrong input at the start of the buffer, and gives its length.
-pub fn wrong_line(out: &mut [u8], wrong: Wrong) -> usize
-    requires { wrong_room ≤ length out.old }
-    ensures printed { Printed out.old 0 (wrong_text wrong) out.new result }
-    ensures upper_bound { result ≤ wrong_room }
+// Puts the line of wrong input behind the text.
+pub fn wrong_line(text: &mut Text, wrong: Wrong)
+    requires { text.old.end + wrong_room ≤ length text.old.room.now }
+    ensures grown { Grown text.old (wrong_text wrong) text.new }
+    ensures upper_bound { text.new.end ≤ text.old.end + wrong_room }
 {
     match wrong {
-        Wrong::Badge => print_bytes(
-            out,
-            0,
-            b"why: the badge is no number from 0 to 4294967295\n",
-        ),
-        Wrong::Floor => print_bytes(
-            out,
-            0,
-            b"why: the floor is no number from 0 to 4294967295\n",
-        ),
-        Wrong::Long => print_bytes(out, 0, b"why: the chip has more than 492352 bytes\n"),
-        Wrong::Uneven => print_bytes(out, 0, b"why: the chip's bytes are no multiple of four\n"),
+        Wrong::Badge => text.bytes(b"why: the badge is no number from 0 to 4294967295\n"),
+        Wrong::Floor => text.bytes(b"why: the floor is no number from 0 to 4294967295\n"),
+        Wrong::Long => text.bytes(b"why: the chip has more than 492352 bytes\n"),
+        Wrong::Uneven => text.bytes(b"why: the chip's bytes are no multiple of four\n"),
     }
 }

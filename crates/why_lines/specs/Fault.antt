@@ -1,5 +1,9 @@
 -- The lines of a fault: the number of the reply with the place, and a sentence. Assumes nothing.
 use Rattle.std.specs.Prelude.{ℕ, Bool, cond, ◌&&◌, List, ◌++◌, eqb}
+use Rattle.fault.specs.declared.Fault.{Fault}
+use Rattle.fault.specs.declared.Part.{Part}
+use Rattle.fault.specs.declared.Part.TheVariants.{Directory, Head, Page, Writing, Kinds}
+use Rattle.fault.specs.Numbers.{number_of}
 use Rattle.printing.specs.Text.{bytes_of}
 use Rattle.printing.specs.Line.{named}
 
@@ -32,6 +36,9 @@ unfoldable pub across_text : ℕ → ℕ → ℕ → List ℕ
 across_text level page slot = cond (placeless level page slot) live_text (kind_text level page slot)
 
 -- What is damaged, by the number of the reply. A number that is none of 10 to 13 is told as 14.
+abbrev pub part_told : ℕ → Part
+part_told number = cond (eqb number 10) Directory (cond (eqb number 11) Head (cond (eqb number 12) Page (cond (eqb number 13) Writing Kinds)))
+
 unfoldable pub damage_text : ℕ → ℕ → ℕ → ℕ → List ℕ
 damage_text number level page slot =
     cond (eqb number 10) directory_text (
@@ -47,3 +54,8 @@ fault_line number level page slot =
 unfoldable pub fault_text : ℕ → ℕ → ℕ → ℕ → List ℕ
 fault_text number level page slot =
     fault_line number level page slot ++ bytes_of "\nThe store is damaged: " ++ damage_text number level page slot ++ bytes_of ".\n"
+
+-- The lines of a fault whose part is told by itself.
+unfoldable pub fault_told : ℕ → Fault → List ℕ
+fault_told number f =
+    fault_line number f.level f.page f.slot ++ bytes_of "\nThe store is damaged: " ++ damage_text (number_of f.part) f.level f.page f.slot ++ bytes_of ".\n"

@@ -1,9 +1,12 @@
 -- The texts of a sentence, of a fault and of a reply by the way that the code takes to each. Assumes nothing.
-use Rattle.std.specs.Prelude.{ℕ, ◌≤◌, ◌<◌, ◌≡◌, Bool, true, false, List}
+use Rattle.std.specs.Prelude.{ℕ, ◌≤◌, ◌<◌, ◌≡◌, refl, Bool, true, false, cond, eqb, List}
+use Rattle.std.proofs.Common.{◌∙◌}
 use borrow.Author.Tests.{eq-eqb, ne_eqb, lt-ltb, le-ltb}
+use Rattle.fault.specs.declared.Part.TheVariants.{Directory, Head, Page, Writing, Kinds}
+use Rattle.fault.specs.Numbers.{number_of, fault_in}
 use Rattle.slot.specs.declared.Pair.{Pair}
 use Rattle.trail_words.specs.Places.{trail_levels, held_in, decided_in, fault_level_in, fault_page_in, fault_slot_in, entry_in, filter_word}
-use Rattle.why_lines.specs.Fault.{directory_text, head_text, page_text, writing_text, placeless, live_text, kind_text, across_text, damage_text, fault_text}
+use Rattle.why_lines.specs.Fault.{directory_text, head_text, page_text, writing_text, placeless, live_text, kind_text, across_text, part_told, damage_text, fault_text, fault_told}
 use Rattle.why_lines.specs.Lines.{held_text, removed_text, none_text, refusal_text, entry_of, sentence_text, answer_text, range_text, length_text, reply_text}
 
 -- The entry in a level that has a line or none.
@@ -68,6 +71,24 @@ module _ (level page slot : ℕ) where
     unfolding damage_text
     damage_across a b c d = rw (ne_eqb number 10 a, ne_eqb number 11 b, ne_eqb number 12 c, ne_eqb number 13 d)
 
+-- What is damaged, by the part that the number of the reply tells.
+parts_agree : (a b c d : Bool) (level page slot : ℕ) → damage_text (number_of (cond a Directory (cond b Head (cond c Page (cond d Writing Kinds))))) level page slot ≡
+    cond a directory_text (cond b (head_text slot) (cond c (page_text level page slot) (cond d (writing_text level page slot) (across_text level page slot))))
+unfolding damage_text
+parts_agree true b c d level page slot = refl
+parts_agree false true c d level page slot = refl
+parts_agree false false true d level page slot = refl
+parts_agree false false false true level page slot = refl
+parts_agree false false false false level page slot = refl
+
+pub damage_part : (number level page slot : ℕ) → damage_text (number_of (part_told number)) level page slot ≡ damage_text number level page slot
+unfolding damage_text
+damage_part number level page slot = parts_agree (eqb number 10) (eqb number 11) (eqb number 12) (eqb number 13) level page slot
+
+pub part_told_lem : (number level page slot : ℕ) → fault_told number (fault_in (part_told number) level page slot) ≡ fault_text number level page slot
+unfolding fault_told fault_text
+part_told_lem number level page slot = rw (damage_part number level page slot)
+
 -- A reply.
 module _ (number : ℕ) (trail : List ℕ) (pair : Pair) where
   pub reply_answer : number ≡ 0 → answer_text trail pair ≡ reply_text number trail pair
@@ -86,3 +107,8 @@ module _ (number : ℕ) (trail : List ℕ) (pair : Pair) where
       fault_text number (fault_level_in trail) (fault_page_in trail) (fault_slot_in trail) ≡ reply_text number trail pair
   unfolding reply_text
   reply_fault a b c = rw (ne_eqb number 0 a, ne_eqb number 1 b, ne_eqb number 5 c)
+
+  -- The fault in the first words of the trail, of the part that the number tells.
+  pub reply_fault_told : (number ≡ 0 → ⊥) → (number ≡ 1 → ⊥) → (number ≡ 5 → ⊥) →
+      fault_told number (fault_in (part_told number) (fault_level_in trail) (fault_page_in trail) (fault_slot_in trail)) ≡ reply_text number trail pair
+  reply_fault_told a b c = part_told_lem number (fault_level_in trail) (fault_page_in trail) (fault_slot_in trail) ∙ reply_fault a b c

@@ -1,220 +1,227 @@
-// The lines that tell why a badge may call a floor or not, each put into a lent buffer.
+// The lines that tell why a badge may call a floor or not, put into a lent buffer.
 #![tactic(auto)]
 
 ghost use Rattle.std.specs.Prelude.{◌+◌, ◌≤◌, ◌≡◌, length};
-ghost use Rattle.printing.specs.Printed.{Printed};
-ghost use Rattle.why_lines.specs.Fault.{fault_text, fault_line, damage_text, page_text, writing_text, across_text, placeless, kind_text};
+ghost use Rattle.fault.specs.Numbers.{number_of};
+ghost use Rattle.printing.specs.Grown.{Grown};
+ghost use Rattle.why_lines.specs.Fault.{fault_told, fault_line, part_told, damage_text, page_text, writing_text, across_text, placeless, kind_text};
 ghost use Rattle.why_lines.specs.Lines.{text_room, reply_text, answer_text, verdict_text, sentence_text, refusal_text, entry_of, pair_text, stands_text};
 
-use printing::{print_bytes, print_named};
+use fault::{Fault, Part};
+use printing::Text;
 use slot::Pair;
 use why_levels::level_lines;
 
 // The bytes that the lines of any reply fit into.
 pub const TEXT_ROOM: usize = 512;
 
-// Puts the lines of a reply at the start of the buffer, and gives their length.
-pub fn reply_lines(out: &mut [u8], number: u32, trail: &[u32; 22], pair: Pair) -> usize
-    requires { text_room ≤ length out.old }
-    ensures printed { Printed out.old 0 (reply_text number trail.now pair) out.new result }
-    ensures upper_bound { result ≤ text_room }
+// Puts the lines of a reply behind the text.
+pub fn reply_lines(text: &mut Text, number: u32, trail: &[u32; 22], pair: Pair)
+    requires { text.old.end + text_room ≤ length text.old.room.now }
+    ensures grown { Grown text.old (reply_text number trail.now pair) text.new }
+    ensures upper_bound { text.new.end ≤ text.old.end + text_room }
 {
     match number {
-        0 => answer_lines(out, trail, pair),
-        1 => print_bytes(
-            out,
-            0,
+        0 => answer_lines(text, trail, pair),
+        1 => text.bytes(
             b"reply=1\nThe chip cannot be read: its first three words name no geometry.\n",
         ),
-        5 => print_bytes(
-            out,
-            0,
+        5 => text.bytes(
             b"reply=5\nThe chip cannot be read: its length is not the one that its geometry asks for.\n",
         ),
         _ => fault_lines(
-            out,
+            text,
             number,
-            trail[trail_words::FAULT_LEVEL],
-            trail[trail_words::FAULT_PAGE],
-            trail[trail_words::FAULT_SLOT],
+            Fault::at(
+                part_told(number),
+                trail[trail_words::FAULT_LEVEL],
+                trail[trail_words::FAULT_PAGE],
+                trail[trail_words::FAULT_SLOT],
+            ),
         ),
+    }
+}
+
+// What is damaged, by the number of the reply. A number that is none of 10 to 13 is told as 14.
+fn part_told(number: u32) -> Part
+    ensures { result ≡ part_told number }
+{
+    match number {
+        10 => Part::Directory,
+        11 => Part::Head,
+        12 => Part::Page,
+        13 => Part::Writing,
+        _ => Part::Kinds,
     }
 }
 
 // The lines of a fault: the number of the reply with the place, and a sentence.
-fn fault_lines(out: &mut [u8], number: u32, level: u32, page: u32, slot: u32) -> usize
-    requires { 182 ≤ length out.old }
-    ensures printed { Printed out.old 0 (fault_text number level page slot) out.new result }
-    ensures upper_bound { result ≤ 182 }
+fn fault_lines(text: &mut Text, number: u32, fault: Fault)
+    requires { text.old.end + 182 ≤ length text.old.room.now }
+    ensures grown { Grown text.old (fault_told number fault) text.new }
+    ensures upper_bound { text.new.end ≤ text.old.end + 182 }
 {
-    let replied = fault_line(out, number, level, page, slot);
-    let begun = print_bytes(out, replied, b"\nThe store is damaged: ");
-    let told = damage_told(out, begun, number, level, page, slot);
-    print_bytes(out, told, b".\n")
+    fault_line(text, number, fault);
+    text.bytes(b"\nThe store is damaged: ");
+    damage_told(text, fault);
+    text.bytes(b".\n");
 }
 
 // The number of the reply and the place of the fault.
-fn fault_line(out: &mut [u8], number: u32, level: u32, page: u32, slot: u32) -> usize
-    requires { 65 ≤ length out.old }
-    ensures printed { Printed out.old 0 (fault_line number level page slot) out.new result }
-    ensures upper_bound { result ≤ 65 }
+fn fault_line(text: &mut Text, number: u32, fault: Fault)
+    requires { text.old.end + 65 ≤ length text.old.room.now }
+    ensures grown { Grown text.old (fault_line number fault.level fault.page fault.slot) text.new }
+    ensures upper_bound { text.new.end ≤ text.old.end + 65 }
 {
-    let replied = print_named(out, 0, b"reply=", number);
-    let levelled = print_named(out, replied, b" level=", level);
-    let paged = print_named(out, levelled, b" page=", page);
-    print_named(out, paged, b" slot=", slot)
+    text.named(b"reply=", number);
+    text.named(b" level=", fault.level);
+    text.named(b" page=", fault.page);
+    text.named(b" slot=", fault.slot);
 }
 
-// What is damaged, by the number of the reply.
-fn damage_told(out: &mut [u8], at: usize, number: u32, level: u32, page: u32, slot: u32) -> usize
-    requires { at + 92 ≤ length out.old }
-    ensures printed { Printed out.old at (damage_text number level page slot) out.new result }
-    ensures upper_bound { result ≤ at + 92 }
+// What is damaged.
+fn damage_told(text: &mut Text, fault: Fault)
+    requires { text.old.end + 92 ≤ length text.old.room.now }
+    ensures grown { Grown text.old (damage_text (number_of fault.part) fault.level fault.page fault.slot) text.new }
+    ensures upper_bound { text.new.end ≤ text.old.end + 92 }
 {
-    match number {
-        10 => print_bytes(out, at, b"its directory is wrong"),
-        11 => print_named(out, at, b"the head is wrong at slot ", slot),
-        12 => page_told(out, at, level, page, slot),
-        13 => writing_told(out, at, level, page, slot),
-        _ => across_told(out, at, level, page, slot),
+    match fault.part {
+        Part::Directory => text.bytes(b"its directory is wrong"),
+        Part::Head => text.named(b"the head is wrong at slot ", fault.slot),
+        Part::Page => page_told(text, fault),
+        Part::Writing => writing_told(text, fault),
+        Part::Kinds => across_told(text, fault),
     }
 }
 
 // That the form of a page is wrong.
-fn page_told(out: &mut [u8], at: usize, level: u32, page: u32, slot: u32) -> usize
-    requires { at + 63 ≤ length out.old }
-    ensures printed { Printed out.old at (page_text level page slot) out.new result }
-    ensures upper_bound { result ≤ at + 63 }
+fn page_told(text: &mut Text, fault: Fault)
+    requires { text.old.end + 63 ≤ length text.old.room.now }
+    ensures grown { Grown text.old (page_text fault.level fault.page fault.slot) text.new }
+    ensures upper_bound { text.new.end ≤ text.old.end + 63 }
 {
-    let paged = print_named(out, at, b"page ", page);
-    let levelled = print_named(out, paged, b" of level ", level);
-    print_named(out, levelled, b" is wrong at slot ", slot)
+    text.named(b"page ", fault.page);
+    text.named(b" of level ", fault.level);
+    text.named(b" is wrong at slot ", fault.slot);
 }
 
 // That a level is not the writing of its entries.
-fn writing_told(out: &mut [u8], at: usize, level: u32, page: u32, slot: u32) -> usize
-    requires { at + 79 ≤ length out.old }
-    ensures printed { Printed out.old at (writing_text level page slot) out.new result }
-    ensures upper_bound { result ≤ at + 79 }
+fn writing_told(text: &mut Text, fault: Fault)
+    requires { text.old.end + 79 ≤ length text.old.room.now }
+    ensures grown { Grown text.old (writing_text fault.level fault.page fault.slot) text.new }
+    ensures upper_bound { text.new.end ≤ text.old.end + 79 }
 {
-    let levelled = print_named(out, at, b"level ", level);
-    let slotted = print_named(out, levelled, b" is not as it is written, at slot ", slot);
-    print_named(out, slotted, b" of page ", page)
+    text.named(b"level ", fault.level);
+    text.named(b" is not as it is written, at slot ", fault.slot);
+    text.named(b" of page ", fault.page);
 }
 
 // That the levels do not fit together: an entry, or the number of pairs, which has no place.
-fn across_told(out: &mut [u8], at: usize, level: u32, page: u32, slot: u32) -> usize
-    requires { at + 92 ≤ length out.old }
-    ensures printed { Printed out.old at (across_text level page slot) out.new result }
-    ensures upper_bound { result ≤ at + 92 }
+fn across_told(text: &mut Text, fault: Fault)
+    requires { text.old.end + 92 ≤ length text.old.room.now }
+    ensures grown { Grown text.old (across_text fault.level fault.page fault.slot) text.new }
+    ensures upper_bound { text.new.end ≤ text.old.end + 92 }
 {
-    if is_placeless(level, page, slot) {
-        return print_bytes(out, at, b"the number of pairs is wrong");
+    if is_placeless(fault) {
+        return text.bytes(b"the number of pairs is wrong");
     }
-    kind_told(out, at, level, page, slot)
+    kind_told(text, fault);
 }
 
 // That an entry is of the wrong kind.
-fn kind_told(out: &mut [u8], at: usize, level: u32, page: u32, slot: u32) -> usize
-    requires { at + 92 ≤ length out.old }
-    ensures printed { Printed out.old at (kind_text level page slot) out.new result }
-    ensures upper_bound { result ≤ at + 92 }
+fn kind_told(text: &mut Text, fault: Fault)
+    requires { text.old.end + 92 ≤ length text.old.room.now }
+    ensures grown { Grown text.old (kind_text fault.level fault.page fault.slot) text.new }
+    ensures upper_bound { text.new.end ≤ text.old.end + 92 }
 {
-    let levelled = print_named(out, at, b"an entry in level ", level);
-    let paged = print_named(out, levelled, b", page ", page);
-    let slotted = print_named(out, paged, b", slot ", slot);
-    print_bytes(out, slotted, b" does not fit the levels below")
+    text.named(b"an entry in level ", fault.level);
+    text.named(b", page ", fault.page);
+    text.named(b", slot ", fault.slot);
+    text.bytes(b" does not fit the levels below");
 }
 
 // Whether a place is all zeros.
-fn is_placeless(level: u32, page: u32, slot: u32) -> bool
-    ensures { result ≡ placeless level page slot }
+fn is_placeless(fault: Fault) -> bool
+    ensures { result ≡ placeless fault.level fault.page fault.slot }
 {
-    (level == 0) & (page == 0) & (slot == 0)
+    fault.level == 0 && fault.page == 0 && fault.slot == 0
 }
 
 // The lines of an answer: those of the levels read, the verdict, and a sentence.
-fn answer_lines(out: &mut [u8], trail: &[u32; 22], pair: Pair) -> usize
-    requires { 467 ≤ length out.old }
-    ensures printed { Printed out.old 0 (answer_text trail.now pair) out.new result }
-    ensures upper_bound { result ≤ 467 }
+fn answer_lines(text: &mut Text, trail: &[u32; 22], pair: Pair)
+    requires { text.old.end + 467 ≤ length text.old.room.now }
+    ensures grown { Grown text.old (answer_text trail.now pair) text.new }
+    ensures upper_bound { text.new.end ≤ text.old.end + 467 }
 {
-    let walked = level_lines(out, trail);
-    let told = verdict_line(
-        out,
-        walked,
-        trail[trail_words::HELD],
-        trail[trail_words::DECIDED],
-    );
-    sentence(out, told, trail, pair)
+    level_lines(text, trail);
+    verdict_line(text, trail[trail_words::HELD], trail[trail_words::DECIDED]);
+    sentence(text, trail, pair);
 }
 
 // The line of the verdict: held or not, and the deciding level.
-fn verdict_line(out: &mut [u8], at: usize, held: u32, decided: u32) -> usize
-    requires { at + 35 ≤ length out.old }
-    ensures printed { Printed out.old at (verdict_text held decided) out.new result }
-    ensures upper_bound { result ≤ at + 35 }
+fn verdict_line(text: &mut Text, held: u32, decided: u32)
+    requires { text.old.end + 35 ≤ length text.old.room.now }
+    ensures grown { Grown text.old (verdict_text held decided) text.new }
+    ensures upper_bound { text.new.end ≤ text.old.end + 35 }
 {
-    let verdict = print_named(out, at, b"held=", held);
-    let end = print_named(out, verdict, b" decided=", decided);
-    print_bytes(out, end, b"\n")
+    text.named(b"held=", held);
+    text.named(b" decided=", decided);
+    text.bytes(b"\n");
 }
 
 // Whether the badge may call the floor, and by what.
-fn sentence(out: &mut [u8], at: usize, trail: &[u32; 22], pair: Pair) -> usize
-    requires { at + 108 ≤ length out.old }
-    ensures printed { Printed out.old at (sentence_text trail.now pair) out.new result }
-    ensures upper_bound { result ≤ at + 108 }
+fn sentence(text: &mut Text, trail: &[u32; 22], pair: Pair)
+    requires { text.old.end + 108 ≤ length text.old.room.now }
+    ensures grown { Grown text.old (sentence_text trail.now pair) text.new }
+    ensures upper_bound { text.new.end ≤ text.old.end + 108 }
 {
     let decided = trail[trail_words::DECIDED];
     if trail[trail_words::HELD] == 1 {
-        let called = pair_told(out, at, b" may call floor ", pair);
+        pair_told(text, b" may call floor ", pair);
         return stands_in(
-            out,
-            called,
+            text,
             b": it was added, and the addition stands in level ",
             decided,
         );
     }
-    refusal_told(out, at, pair, decided, entry_at(trail, decided))
+    refusal_told(text, pair, decided, entry_at(trail, decided));
 }
 
 // That the badge may not call the floor: a filter in the deciding level removed the pair, or no level decides.
-fn refusal_told(out: &mut [u8], at: usize, pair: Pair, decided: u32, entry: u32) -> usize
-    requires { at + 108 ≤ length out.old }
-    ensures printed { Printed out.old at (refusal_text pair decided entry) out.new result }
-    ensures upper_bound { result ≤ at + 108 }
+fn refusal_told(text: &mut Text, pair: Pair, decided: u32, entry: u32)
+    requires { text.old.end + 108 ≤ length text.old.room.now }
+    ensures grown { Grown text.old (refusal_text pair decided entry) text.new }
+    ensures upper_bound { text.new.end ≤ text.old.end + 108 }
 {
-    let refused = pair_told(out, at, b" may not call floor ", pair);
+    pair_told(text, b" may not call floor ", pair);
     if entry == trail_words::FILTER {
         return stands_in(
-            out,
-            refused,
+            text,
             b": it was removed, and the removal stands in level ",
             decided,
         );
     }
-    print_bytes(out, refused, b": no entry for it was found.\n")
+    text.bytes(b": no entry for it was found.\n");
 }
 
 // A badge and a floor, with what the badge may do between them.
-fn pair_told(out: &mut [u8], at: usize, may: &[u8], pair: Pair) -> usize
-    requires { at + (length may.now + 26) ≤ length out.old }
-    ensures printed { Printed out.old at (pair_text may.now pair) out.new result }
-    ensures upper_bound { result ≤ at + (length may.now + 26) }
+fn pair_told(text: &mut Text, may: &[u8], pair: Pair)
+    requires { text.old.end + (length may.now + 26) ≤ length text.old.room.now }
+    ensures grown { Grown text.old (pair_text may.now pair) text.new }
+    ensures upper_bound { text.new.end ≤ text.old.end + (length may.now + 26) }
 {
-    let named = print_named(out, at, b"Badge ", pair.badge);
-    print_named(out, named, may, pair.floor.0)
+    text.named(b"Badge ", pair.badge);
+    text.named(may, pair.floor.0);
 }
 
 // The end of a sentence: what stands in a level.
-fn stands_in(out: &mut [u8], at: usize, what: &[u8], level: u32) -> usize
-    requires { at + (length what.now + 12) ≤ length out.old }
-    ensures printed { Printed out.old at (stands_text what.now level) out.new result }
-    ensures upper_bound { result ≤ at + (length what.now + 12) }
+fn stands_in(text: &mut Text, what: &[u8], level: u32)
+    requires { text.old.end + (length what.now + 12) ≤ length text.old.room.now }
+    ensures grown { Grown text.old (stands_text what.now level) text.new }
+    ensures upper_bound { text.new.end ≤ text.old.end + (length what.now + 12) }
 {
-    let end = print_named(out, at, what, level);
-    print_bytes(out, end, b".\n")
+    text.named(what, level);
+    text.bytes(b".\n");
 }
 
 // The entry of the pair in a level. A level that has no line has none.

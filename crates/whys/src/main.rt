@@ -3,10 +3,11 @@
 // 1, with `out` or `err` for the stream that its text is for, and then the text.
 #![tactic(auto)]
 
-ghost use Rattle.std.specs.Prelude.{◌≤◌, min, ◌≡◌, length};
+ghost use Rattle.std.specs.Prelude.{◌≤◌, length};
 
 use std::io;
 use std::io::Read;
+use why_text::{Stream, tell_why};
 
 // The most bytes of the list that are read.
 const MOST_BYTES: u64 = 262144;
@@ -47,7 +48,7 @@ fn field_end(inputs: &[u8], from: usize, at: usize) -> usize
     requires { from ≤ length inputs.now }
     ensures { (from ≤ result) × (result ≤ length inputs.now) }
 {
-    least(from + script::word_at(inputs, at) as usize, inputs.len())
+    (from + script::word_at(inputs, at) as usize).min(inputs.len())
 }
 
 fn run_one(
@@ -59,19 +60,15 @@ fn run_one(
     words: &mut [u32],
     out: &mut [u8],
 ) -> io::Result<()> {
-    let told = why_text::tell_why(badge, floor, chip, words, out);
-    let length = told.length;
-    title_line(rt, number, told.wrong)?;
-    rt.write_all(&out[..length])
+    let told = tell_why(badge, floor, chip, words, out);
+    title_line(rt, number, told.stream)?;
+    rt.write_all(&out[..told.length])
 }
 
-fn title_line(rt: &impl Print, number: usize, wrong: bool) -> io::Result<()> {
-    let stream = if wrong { "err" } else { "out" };
-    println!(rt; "why {number} {stream}")
-}
-
-fn least(a: usize, b: usize) -> usize
-    ensures { result ≡ min a b }
-{
-    if a < b { a } else { b }
+fn title_line(rt: &impl Print, number: usize, stream: Stream) -> io::Result<()> {
+    let name = match stream {
+        Stream::Output => "out",
+        Stream::Error => "err",
+    };
+    println!(rt; "why {number} {name}")
 }

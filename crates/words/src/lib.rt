@@ -10,11 +10,7 @@ pub fn erase(words: &mut [u32], from: usize, to: usize)
     requires { to ≤ length words.old }
     ensures { words.new ≡ sets words.old from (replicate (to - from) erased) }
 {
-    let mut i = from;
-    while i < to {
-        words[i] = geometry::ERASED;
-        i += 1;
-    }
+    words[from.min(to)..to].fill(geometry::ERASED);
 }
 
 // Copies the first n words of a slice to a place on.
@@ -22,9 +18,5 @@ pub fn copy_in(words: &mut [u32], place: usize, from: &[u32], n: usize)
     requires { (place + n ≤ length words.old) × (n ≤ length from.now) }
     ensures { words.new ≡ sets words.old place (take n from.now) }
 {
-    let mut j = 0;
-    while j < n {
-        words[place + j] = from[j];
-        j += 1;
-    }
+    words[place..place + n].copy_from_slice(&from[..n]);
 }

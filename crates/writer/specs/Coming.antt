@@ -21,6 +21,7 @@ use Rattle.layout.specs.Stream.{cut, fenced_at, entry_next, fences_from, laid_fr
 use Rattle.layout.specs.Stream.{laid_ended, fence_passed, entry_passed, internal_passed}
 use Rattle.layout.proofs.Stream.{laid_next}
 use Rattle.good.specs.Pages.{weave_length}
+use Rattle.writer.specs.declared.Position.{Position}
 use Rattle.writer.specs.declared.Source.{Source}
 use Rattle.writer.specs.Source.{first_below, level_from}
 use Rattle.writer.specs.Append.{slot_put, slots_put, put_joined, put_count, slots_appended}
@@ -194,6 +195,10 @@ module _ (w : List ℕ) (source : Source) where
       (s : Slot) → s ≡ fence_of (first_below w source) fence → SameFinish pair own work₀ fence₀ (slot_put work (own + fence) s) (fence + 1)
   same_further pair own work₀ fence₀ work fence same h s q e es p =
       fence_put_before work own fence e s (ap (entry_next (first_below w source) source.below fence) p ∙ h) q es ∙ same e es p
+
+  -- Whatever entries come behind this one, an area and one with it put, and the fences before it, come to the same.
+  abbrev pub EntryPut : Entry → List ℕ → Position → List ℕ → Position → Type 0
+  EntryPut e work at area then = (es : Level) → finished area then.own then.fence es ≡ finished work at.own at.fence (e ∷ es)
 
   -- From the level without slots on, the area becomes the level of all entries.
   pub finish_whole : (work : List ℕ) (room : ℕ) (es : Level) → work ≡ level_words [] room →

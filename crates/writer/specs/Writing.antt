@@ -4,7 +4,7 @@ use Rattle.std.proofs.Math.Nat.{sub-zero}
 use Rattle.std.proofs.Common.{arith, sym, ap, ◌∙◌}
 use Rattle.std.proofs.lemmas.List.Edits.{sets}
 use Rattle.geometry.specs.Places.{erased, words_in_page, slots_in_page}
-use Rattle.rules.specs.Tree.{Entry}
+use Rattle.rules.specs.Tree.{Entry, Level}
 use Rattle.rules.specs.Store.{level_words}
 use Rattle.layout.specs.Stream.{fenced_at, entry_next}
 use Rattle.writer.specs.declared.Source.{Source}
@@ -96,6 +96,26 @@ module _ (w : List ℕ) (source : Source) (room : ℕ) where
         ready = lower_past w source u lower (upper_past w source upper lower going.ready u high) l low;
         fence_most = going.fence_most;
         whole = going.whole;
+      }
+
+    -- The first entry of both finds room behind all fences, and is put with the fences before it.
+    module _ (e : Entry) (u l : ℕ) (first : e ∷ joined w source u l ≡ joined w source upper lower) where
+      pub next_room : length (level_from w source) ≤ 21 * room → room ≤ 4096 → RoomFor (own + source.below + 1) work
+      next_room h few =
+          let least = finish_least w source work own fence (e ∷ joined w source u l) in
+          let whole = ap (finished w source work own fence) first ∙ going.finishes in
+          record {
+            enough = omega (arith, least, ap (λ (x : List ℕ × ℕ). x.1) whole, going.fence_most, going.whole);
+            few = omega (arith, going.whole);
+          }
+
+      pub next_put : (put : List ℕ) (more later : ℕ) → ((es : Level) → finished w source put more later es ≡ finished w source work own fence (e ∷ es)) →
+          Ready w source u l → later ≤ source.below → length put ≡ length work → Going put u l more later
+      next_put put more later told ready most kept = record {
+        finishes = told (joined w source u l) ∙ ap (finished w source work own fence) first ∙ going.finishes;
+        ready = ready;
+        fence_most = most;
+        whole = kept ∙ going.whole;
       }
 
     -- The first entry of both: the fences before it are put, and then it is put itself.

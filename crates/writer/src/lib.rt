@@ -1,10 +1,8 @@
 // Writes a level from a stream of entries over the fences below: two levels' index entries joined in order, with a fence for each page of
-// the level below, slot by slot into a lent work area that is never read. A position is counted in two parts: `own`, the entries and
-// internal fences before it, and `fence`, the fences of the level below.
+// the level below, slot by slot into a lent work area that is never read.
 #![tactic(auto)]
 
 ghost use Rattle.std.specs.Prelude.{◌+◌, ◌*◌, ◌^◌, ◌≤◌, ◌<◌, ◌≡◌, true, [], length};
-ghost use Rattle.slot.specs.Pair.{same};
 ghost use Rattle.entries.specs.Run.{Inside, entry as indexed};
 ghost use Rattle.entries.specs.Spot.{page_at, Standing};
 ghost use Rattle.rules.specs.Level.{pages_for};
@@ -13,7 +11,7 @@ ghost use Rattle.layout.specs.Stream.{entry_next};
 ghost use Rattle.writer.specs.Source.{SourceInside, SourceAscends, first_below, level_from, empty_run};
 ghost use Rattle.writer.specs.Joining.{turn_of_two, turn_at, Ready, Reached, Passed};
 ghost use Rattle.writer.specs.Append.{slot_put, slots_put};
-ghost use Rattle.writer.specs.Coming.{entry_slots, finished, SameFinish};
+ghost use Rattle.writer.specs.Coming.{entry_slots, finished, SameFinish, EntryPut};
 ghost use Rattle.writer.specs.Writing.{room_in, WholePages, RoomFor};
 ghost use Rattle.geometry.specs.Places.{slots_in_page};
 
@@ -31,6 +29,23 @@ pub struct Source {
     pub below_start: u32,
     pub below: u32,
     pub fenced: bool,
+}
+
+// Where the next slot goes: behind the level's own slots, which are entries and internal fences, and the fences of the level below.
+#[derive(Clone, Copy)]
+struct Position {
+    own: u32,
+    fence: u32,
+}
+
+impl Position {
+    // The number of slots before it.
+    fn slots(self) -> u32
+        requires { self.own + self.fence < 2 ^ 32 }
+        ensures { result ≡ self.own + self.fence }
+    {
+        self.own + self.fence
+    }
 }
 
 // Whose entry comes next of two runs: the upper's, the lower's, or both, where they are of one pair; or no entry is left.
@@ -69,28 +84,25 @@ fn write_slots(store: &[u32], work: &mut [u32], source: Source) -> u32
     let under = source.lower;
     let mut upper = spot_from(store, above, 0);
     let mut lower = spot_from(store, under, 0);
-    let mut own: u32 = 0;
-    let mut fence: u32 = 0;
+    let mut at = Position { own: 0, fence: 0 };
     loop {
         match turn_of(store, source, upper, lower) {
             Turn::Upper => {
                 let entry = entries::entry_at(store, above, upper);
                 upper = past(store, above, upper);
-                fence = put_fences_before(store, work, source, own, fence, entry.pair);
-                own = put_entry(work, source, own, fence, entry);
+                at = put_next(store, work, source, at, entry);
             }
             Turn::Lower => {
                 let entry = entries::entry_at(store, under, lower);
                 lower = past(store, under, lower);
-                fence = put_fences_before(store, work, source, own, fence, entry.pair);
-                own = put_entry(work, source, own, fence, entry);
+                at = put_next(store, work, source, at, entry);
             }
             Turn::Both => {
                 upper = past(store, above, upper);
                 lower = past(store, under, lower);
             }
             Turn::Neither => {
-                return put_fences(store, work, source, own, fence);
+                return put_fences(store, work, source, at);
             }
         }
     }
@@ -101,10 +113,7 @@ pub fn pages_for(slots: u32) -> u32
     requires { slots + slots_in_page < 2 ^ 32 }
     ensures { result ≡ pages_for slots }
 {
-    if slots == 0 {
-        return 1;
-    }
-    (slots + PAGE_SLOTS - 1) / PAGE_SLOTS
+    slots.div_ceil(PAGE_SLOTS).max(1)
 }
 
 // A run that has no entries.
@@ -140,72 +149,86 @@ fn put_slot(work: &mut [u32], position: u32, slot: Slot)
     work[page] = number + 1;
 }
 
+// Puts the next entry behind the fences that come before it.
+fn put_next(store: &[u32], work: &mut [u32], source: Source, at: Position, entry: Entry) -> Position
+    requires source_inside { SourceInside store.now source }
+    requires room_for { RoomFor (at.own + source.below + 1) work.old }
+    requires fence_le_below { at.fence ≤ source.below }
+    ensures told { EntryPut store.now source (indexed entry) work.old at work.new result }
+    ensures most { result.fence ≤ source.below }
+{
+    let fence = put_fences_before(store, work, source, at, entry.pair);
+    let behind = Position { own: at.own, fence };
+    put_entry(work, source.fenced, behind, entry)
+}
+
 // Puts the fences that come before an entry of a pair, and gives the number of fences then.
 fn put_fences_before(
     store: &[u32],
     work: &mut [u32],
     source: Source,
-    own: u32,
-    fence: u32,
+    at: Position,
     pair: Pair,
 ) -> u32
     requires source_inside { SourceInside store.now source }
-    requires room_for { RoomFor (own + source.below) work.old }
-    requires fence_le_below { fence ≤ source.below }
-    ensures told { SameFinish store.now source pair own work.old fence work.new result }
+    requires room_for { RoomFor (at.own + source.below) work.old }
+    requires fence_le_below { at.fence ≤ source.below }
+    ensures told { SameFinish store.now source pair at.own work.old at.fence work.new result }
     ensures next { entry_next (first_below store.now source) source.below result pair ≡ true }
     ensures most { result ≤ source.below }
 {
     let start = source.below_start as usize;
-    let mut next = fence;
+    let mut next = at.fence;
     while !entry_next(store, start, source.below, Pid(next), pair) {
-        put_slot(work, own + next, fence_of(store, start, Pid(next)));
+        put_slot(work, at.own + next, fence_of(store, start, Pid(next)));
         next += 1;
     }
     next
 }
 
 // Puts the fences that are left, and gives the number of all slots.
-fn put_fences(store: &[u32], work: &mut [u32], source: Source, own: u32, fence: u32) -> u32
+fn put_fences(store: &[u32], work: &mut [u32], source: Source, at: Position) -> u32
     requires source_inside { SourceInside store.now source }
-    requires room_for { RoomFor (own + source.below) work.old }
-    requires fence_le_below { fence ≤ source.below }
-    ensures { (work.new, result) ≡ finished store.now source work.old own fence [] }
+    requires room_for { RoomFor (at.own + source.below) work.old }
+    requires fence_le_below { at.fence ≤ source.below }
+    ensures { (work.new, result) ≡ finished store.now source work.old at.own at.fence [] }
 {
     let start = source.below_start as usize;
-    let mut next = fence;
-    while next < source.below {
-        put_slot(work, own + next, fence_of(store, start, Pid(next)));
-        next += 1;
+    for next in at.fence..source.below {
+        put_slot(work, at.own + next, fence_of(store, start, Pid(next)));
     }
-    own + next
+    at.own + source.below
 }
 
-// Puts an entry, with an internal fence before it where it would be first in a page, and gives the number of the level's own slots then.
-fn put_entry(work: &mut [u32], source: Source, own: u32, fence: u32, entry: Entry) -> u32
-    requires room_for { RoomFor (own + fence + 1) work.old }
-    requires fence_bound { fence ≤ 2 ^ 30 }
-    ensures { (work.new, result + fence) ≡
-        slots_put work.old (own + fence) (entry_slots source.fenced (own + fence) fence (indexed entry)) }
+// Puts an entry, with an internal fence before it where it would be first in a page.
+fn put_entry(work: &mut [u32], fenced: bool, at: Position, entry: Entry) -> Position
+    requires room_for { RoomFor (at.own + at.fence + 1) work.old }
+    requires fence_bound { at.fence ≤ 2 ^ 30 }
+    ensures told { (work.new, result.own + at.fence) ≡
+        slots_put work.old (at.own + at.fence) (entry_slots fenced (at.own + at.fence) at.fence (indexed entry)) }
+    ensures fences { result.fence ≡ at.fence }
 {
-    let pair = entry.pair;
     let slot = entries::index_of(entry);
-    if fenced_at(source.fenced, (own + fence) as usize) {
-        let behind = put_own(work, own, fence, inner_fence(pair, Pid(fence)));
-        return put_own(work, behind, fence, slot);
+    if fenced_at(fenced, at.slots() as usize) {
+        let behind = put_own(work, at, inner_fence(entry.pair, Pid(at.fence)));
+        return put_own(work, behind, slot);
     }
-    put_own(work, own, fence, slot)
+    put_own(work, at, slot)
 }
 
-// Puts an entry's slot or an internal fence, and gives the number of the level's own slots then.
-fn put_own(work: &mut [u32], own: u32, fence: u32, slot: Slot) -> u32
-    requires room_for { RoomFor (own + fence + 1) work.old }
+// Puts an entry's slot or an internal fence.
+fn put_own(work: &mut [u32], at: Position, slot: Slot) -> Position
+    requires room_for { RoomFor (at.own + at.fence + 1) work.old }
     requires page_bound { slot.page.0 < 2 ^ 30 }
-    ensures area { work.new ≡ slot_put work.old (own + fence) slot }
-    ensures count { result ≡ own + 1 }
+    ensures area { work.new ≡ slot_put work.old (at.own + at.fence) slot }
+    ensures count { result.own ≡ at.own + 1 }
+    ensures fences { result.fence ≡ at.fence }
 {
-    put_slot(work, own + fence, slot);
-    own + 1
+    put_slot(work, at.slots(), slot);
+    Position {
+        own: at.own + 1,
+        fence: at.fence,
+    }
 }
 
 // Whose entry comes next at two spots.
@@ -216,38 +239,33 @@ fn turn_of(store: &[u32], source: Source, upper: u64, lower: u64) -> Turn
 {
     let above = source.upper;
     let under = source.lower;
-    if entries::is_ended(above, upper) {
-        if entries::is_ended(under, lower) {
-            return Turn::Neither;
+    match (
+        entries::is_ended(above, upper),
+        entries::is_ended(under, lower),
+    ) {
+        (true, true) => Turn::Neither,
+        (true, false) => Turn::Lower,
+        (false, true) => Turn::Upper,
+        (false, false) => {
+            let high = entries::entry_at(store, above, upper);
+            let low = entries::entry_at(store, under, lower);
+            turn_of_two(high, low)
         }
-        return Turn::Lower;
     }
-    if entries::is_ended(under, lower) {
-        return Turn::Upper;
-    }
-    let high = entries::entry_at(store, above, upper);
-    let low = entries::entry_at(store, under, lower);
-    turn_of_two(high, low)
 }
 
-// Whose entry comes next of two.
+// Whose entry comes next of two. Those of one pair cancel, whichever of them is the filter.
+#[tactic(auto, unfolding(crate::specs::Joining::turn_of_two))]
 fn turn_of_two(high: Entry, low: Entry) -> Turn
     ensures { result ≡ turn_of_two (indexed high) (indexed low) }
 {
-    if cancel(high, low) {
-        return Turn::Both;
+    if slot::same_pair(high.pair, low.pair) {
+        Turn::Both
+    } else if slot::comes_before(high.pair, low.pair) {
+        Turn::Upper
+    } else {
+        Turn::Lower
     }
-    if slot::comes_before(high.pair, low.pair) {
-        return Turn::Upper;
-    }
-    Turn::Lower
-}
-
-// Whether two entries cancel: those of one pair do, whichever of them is the filter.
-fn cancel(high: Entry, low: Entry) -> bool
-    ensures { result ≡ same high.pair low.pair }
-{
-    slot::same_pair(high.pair, low.pair)
 }
 
 // Where the entry behind one stands.

@@ -33,8 +33,8 @@ module _ (w : List ℕ) (row : Row) (none : Unfenced row) where
   unfolding fenced_at
   none_due n = rw none.none_inside refl
 
-  all_passed : (p : ℕ) → leb row.below p ≡ true
-  all_passed p = le-leb row.below p (omega (arith, none.none_below))
+  all_passed : (p : ℕ) → leb row.below.pages p ≡ true
+  all_passed p = le-leb row.below.pages p (omega (arith, none.none_below))
 
   -- So the wanted slot is that of the next entry, and a fence is never wanted; and an entry fits exactly if it stands in its entry's slot.
   wanted_entry : (n r p : ℕ) → r < row.slots → index (entry_of (row_slot w row r)) ≡ wanted_at w row n r p

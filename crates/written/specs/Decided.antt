@@ -11,6 +11,7 @@ use borrow.Author.Tests.{eqb-true, eq-eqb}
 use Rattle.laws.specs.Lists.{span, equal}
 use Rattle.laws.specs.Tests.{and_left, and_right}
 use Rattle.laws.specs.Flat.{bool_agree, equal_true, equal_refl, span_length, slice_replicate, replicate_slice}
+use Rattle.geometry.specs.declared.LevelPlace.{LevelPlace}
 use Rattle.geometry.specs.Places.{erased}
 use Rattle.slot.specs.declared.Pair.{Pair}
 use Rattle.slot.specs.declared.Slot.{Slot}
@@ -29,25 +30,11 @@ use Rattle.written.specs.Row.{RowInside, row_place, row_slot, row_slots, first_b
 use Rattle.written.specs.Tested.{unused, filled, unused_tells, unused_told, filled_tells, filled_told}
 
 -- The row of a level, and of the head.
-unfoldable pub level_row : List ℕ → ℕ → ℕ → Bool → ℕ → ℕ → Row
-level_row w start pages fenced below_start below = record {
-  start = start;
-  paged = true;
-  fenced = fenced;
-  slots = row_length w start pages;
-  below_start = below_start;
-  below = below;
-}
+unfoldable pub level_row : List ℕ → ℕ → ℕ → Bool → LevelPlace → Row
+level_row w start pages fenced below = record { start = start; paged = true; fenced = fenced; slots = row_length w start pages; below = below }
 
-unfoldable pub head_row : ℕ → ℕ → ℕ → ℕ → Row
-head_row start count below_start below = record {
-  start = start;
-  paged = false;
-  fenced = false;
-  slots = count;
-  below_start = below_start;
-  below = below;
-}
+unfoldable pub head_row : ℕ → ℕ → LevelPlace → Row
+head_row start count below = record { start = start; paged = false; fenced = false; slots = count; below = below }
 
 -- The stream from the beginning is the whole writing.
 pub laid_whole : (inner : Bool) (first : ℕ → Pair) (below : ℕ) (es : Level) → laid_from inner first below 0 0 es ≡ laid_over inner first below es
@@ -57,53 +44,53 @@ laid_whole false first below es = rw (sub-zero below) refl
 
 -- A row is written exactly if it is the writing of its own entries, which ascend.
 module _ (w : List ℕ) (row : Row) where
-  row_laid : row_written w row ≡ true → laid_over row.fenced (first_below w row) row.below (entries_of (row_slots w row)) ≡ row_slots w row
+  row_laid : row_written w row ≡ true → laid_over row.fenced (first_below w row) row.below.pages (entries_of (row_slots w row)) ≡ row_slots w row
   unfolding row_written
   row_laid e =
-      sym (laid_whole row.fenced (first_below w row) row.below (entries_of (row_slots w row))) ∙
-      stream_laid row.fenced (first_below w row) row.below 0 0 (row_slots w row)
-      (and_left (are_stream row.fenced (first_below w row) row.below 0 0 (row_slots w row)) (ascending (entries_of (row_slots w row))) e)
+      sym (laid_whole row.fenced (first_below w row) row.below.pages (entries_of (row_slots w row))) ∙
+      stream_laid row.fenced (first_below w row) row.below.pages 0 0 (row_slots w row)
+      (and_left (are_stream row.fenced (first_below w row) row.below.pages 0 0 (row_slots w row)) (ascending (entries_of (row_slots w row))) e)
 
   row_ascends : row_written w row ≡ true → ascending (entries_of (row_slots w row)) ≡ true
   unfolding row_written
-  row_ascends e = and_right (are_stream row.fenced (first_below w row) row.below 0 0 (row_slots w row)) (ascending (entries_of (row_slots w row))) e
+  row_ascends e = and_right (are_stream row.fenced (first_below w row) row.below.pages 0 0 (row_slots w row)) (ascending (entries_of (row_slots w row))) e
 
-  row_told : laid_over row.fenced (first_below w row) row.below (entries_of (row_slots w row)) ≡ row_slots w row →
+  row_told : laid_over row.fenced (first_below w row) row.below.pages (entries_of (row_slots w row)) ≡ row_slots w row →
       ascending (entries_of (row_slots w row)) ≡ true → row_written w row ≡ true
   unfolding row_written
   row_told e a =
       rw (
-        laid_stream row.fenced (first_below w row) row.below 0 0 (row_slots w row)
-            (laid_whole row.fenced (first_below w row) row.below (entries_of (row_slots w row)) ∙ e),
+        laid_stream row.fenced (first_below w row) row.below.pages 0 0 (row_slots w row)
+            (laid_whole row.fenced (first_below w row) row.below.pages (entries_of (row_slots w row)) ∙ e),
         a,
       ) refl
 
 -- The row of a level whose pages are filled, and of the head.
-level_row_lem : (w : List ℕ) (start pages : ℕ) (fenced : Bool) (below_start below : ℕ) →
-    row_slots w (level_row w start pages fenced below_start below) ≡ span (flat_slot w start) 0 (row_length w start pages)
+level_row_lem : (w : List ℕ) (start pages : ℕ) (fenced : Bool) (below : LevelPlace) →
+    row_slots w (level_row w start pages fenced below) ≡ span (flat_slot w start) 0 (row_length w start pages)
 unfolding row_slots level_row row_slot row_place flat_slot
-level_row_lem w start pages fenced below_start below = refl
+level_row_lem w start pages fenced below = refl
 
-head_row_lem : (w : List ℕ) (start count below_start below : ℕ) → row_slots w (head_row start count below_start below) ≡ slots_from w start count
+head_row_lem : (w : List ℕ) (start count : ℕ) (below : LevelPlace) → row_slots w (head_row start count below) ≡ slots_from w start count
 unfolding row_slots head_row row_slot row_place slots_from
-head_row_lem w start count below_start below = refl
+head_row_lem w start count below = refl
 
 -- A level is its writing exactly if its pages are filled, its row is written, and what is behind is unused.
-module _ (w : List ℕ) (start room pages : ℕ) (fenced : Bool) (below_start below : ℕ) (inside : LevelInside w start room pages below_start below) where
+module _ (w : List ℕ) (start room pages : ℕ) (fenced : Bool) (below : LevelPlace) (inside : LevelInside w start room pages below.start below.pages) where
   abbrev own : Level
   own = entries_of (level_run w start pages)
 
   abbrev laid : List Slot
-  laid = laid_over fenced (first_pair w below_start) below own
+  laid = laid_over fenced (first_pair w below.start) below.pages own
 
   abbrev row : Row
-  row = level_row w start pages fenced below_start below
+  row = level_row w start pages fenced below
 
   pub row_own : Filled w start pages → row_slots w row ≡ level_run w start pages
   row_own fill =
-      level_row_lem w start pages fenced below_start below ∙ sym (level_flat w start room pages inside.room_inside inside.pages_least inside.pages_most fill)
+      level_row_lem w start pages fenced below ∙ sym (level_flat w start room pages inside.room_inside inside.pages_least inside.pages_most fill)
 
-  level_passes : level_written w start room pages fenced below_start below ≡ true →
+  level_passes : level_written w start room pages fenced below.start below.pages ≡ true →
       (filled w start pages && row_written w row && unused w (used_end w start pages) (start + 64 * room)) ≡ true
   unfolding level_written level_row first_below
   level_passes e =
@@ -125,7 +112,7 @@ module _ (w : List ℕ) (start room pages : ℕ) (fenced : Bool) (below_start be
       ) refl
 
   level_passed : (filled w start pages && row_written w row && unused w (used_end w start pages) (start + 64 * room)) ≡ true →
-      level_written w start room pages fenced below_start below ≡ true
+      level_written w start room pages fenced below.start below.pages ≡ true
   unfolding level_written level_row first_below
   level_passed e =
       let behind = unused w (used_end w start pages) (start + 64 * room) in
@@ -145,33 +132,33 @@ module _ (w : List ℕ) (start room pages : ℕ) (fenced : Bool) (below_start be
       (unused_tells w (used_end w start pages) (start + 64 * room) (and_right (filled w start pages && row_written w row) behind e)) in
       rw (up, eq-eqb (pages_for (length laid)) pages counted, written, equal_refl (level_words laid room)) refl
 
-  pub level_decided : level_written w start room pages fenced below_start below ≡
+  pub level_decided : level_written w start room pages fenced below.start below.pages ≡
       (filled w start pages && row_written w row && unused w (used_end w start pages) (start + 64 * room))
   level_decided = bool_agree _ _ level_passes level_passed
 
   -- So it is told test by test, with the number of its entries.
-  pub level_unfilled : filled w start pages ≡ false → level_written w start room pages fenced below_start below ≡ false
+  pub level_unfilled : filled w start pages ≡ false → level_written w start room pages fenced below.start below.pages ≡ false
   level_unfilled f = level_decided ∙ rw f refl
 
   module _ (fill : filled w start pages ≡ true) where
-    pub level_kept : level_written w start room pages fenced below_start below ≡ (row_written w row && unused w (used_end w start pages) (start + 64 * room))
+    pub level_kept : level_written w start room pages fenced below.start below.pages ≡ (row_written w row && unused w (used_end w start pages) (start + 64 * room))
     level_kept = level_decided ∙ rw fill refl
 
     pub level_counts_lem : length (entries_of (row_slots w row)) ≡ length (entries_of (level_run w start pages))
     level_counts_lem = ap (λ (l : List Slot). length (entries_of l)) (row_own (filled_tells w start pages inside.pages_least fill))
 
 -- So is the head, which is not cut into pages, where its row is written and what is behind is unused.
-module _ (w : List ℕ) (start room count below_start below : ℕ) (inside : HeadInside w start room count below_start below) where
+module _ (w : List ℕ) (start room count : ℕ) (below : LevelPlace) (inside : HeadInside w start room count below.start below.pages) where
   abbrev head_own : Level
   head_own = entries_of (slots_from w start count)
 
   abbrev head_laid : List Slot
-  head_laid = laid_over false (first_pair w below_start) below head_own
+  head_laid = laid_over false (first_pair w below.start) below.pages head_own
 
   abbrev heads_row : Row
-  heads_row = head_row start count below_start below
+  heads_row = head_row start count below
 
-  head_passes : head_written w start room count below_start below ≡ true →
+  head_passes : head_written w start room count below.start below.pages ≡ true →
       (row_written w heads_row && unused w (start + 3 * count) (start + 3 * room)) ≡ true
   unfolding head_written head_row first_below
   head_passes e =
@@ -182,7 +169,7 @@ module _ (w : List ℕ) (start room count below_start below : ℕ) (inside : Hea
       let counted : length head_laid ≡ count = eqb-true _ _ (and_right up many front) in
       let written : take (3 * room) (drop start w) ≡ run_words head_laid room = equal_true _ _ (and_right (up && many) words e) in
       let fits : length head_laid ≤ room = rw counted inside.count_most in
-      let rs : row_slots w heads_row ≡ slots_from w start count = head_row_lem w start count below_start below in
+      let rs : row_slots w heads_row ≡ slots_from w start count = head_row_lem w start count below in
       let is : head_laid ≡ slots_from w start count = rw counted at (run_slots w start room head_laid inside.room_inside fits written) in
       let rest = run_rest w start room head_laid inside.room_inside fits written in
       rw (
@@ -192,14 +179,14 @@ module _ (w : List ℕ) (start room count below_start below : ℕ) (inside : Hea
         }),
       ) refl
 
-  head_passed : (row_written w heads_row && unused w (start + 3 * count) (start + 3 * room)) ≡ true → head_written w start room count below_start below ≡ true
+  head_passed : (row_written w heads_row && unused w (start + 3 * count) (start + 3 * room)) ≡ true → head_written w start room count below.start below.pages ≡ true
   unfolding head_written head_row first_below
   head_passed e =
       let behind = unused w (start + 3 * count) (start + 3 * room) in
       let ok : row_written w heads_row ≡ true = and_left (row_written w heads_row) behind e in
       let rest : Unused w (start + 3 * count) (start + 3 * room) =
       unused_tells w (start + 3 * count) (start + 3 * room) (and_right (row_written w heads_row) behind e) in
-      let rs : row_slots w heads_row ≡ slots_from w start count = head_row_lem w start count below_start below in
+      let rs : row_slots w heads_row ≡ slots_from w start count = head_row_lem w start count below in
       let up : ascending head_own ≡ true = rw rs at (row_ascends w heads_row ok) in
       let is : head_laid ≡ slots_from w start count = rw rs at (row_laid w heads_row ok) in
       let counted : length head_laid ≡ count = ap length is ∙ slots_length w start count in
@@ -209,26 +196,26 @@ module _ (w : List ℕ) (start room count below_start below : ℕ) (inside : Hea
       (slice_replicate w (start + 3 * length head_laid) (3 * (room - length head_laid)) erased (omega (arith, inside.room_inside)) (λ j l u. rest.each j (omega arith) (omega arith))) in
       rw (up, eq-eqb (length head_laid) count counted, written, equal_refl (run_words head_laid room)) refl
 
-  pub head_decided : head_written w start room count below_start below ≡ (row_written w heads_row && unused w (start + 3 * count) (start + 3 * room))
+  pub head_decided : head_written w start room count below.start below.pages ≡ (row_written w heads_row && unused w (start + 3 * count) (start + 3 * room))
   head_decided = bool_agree _ _ head_passes head_passed
 
   pub head_counts : length (entries_of (row_slots w heads_row)) ≡ length (entries_of (slots_from w start count))
-  head_counts = ap (λ (l : List Slot). length (entries_of l)) (head_row_lem w start count below_start below)
+  head_counts = ap (λ (l : List Slot). length (entries_of l)) (head_row_lem w start count below)
 
 -- The row of a level with filled pages, and of the head, lies inside the words.
-pub level_row_inside : (w : List ℕ) (start room pages : ℕ) (fenced : Bool) (below_start below : ℕ) → LevelInside w start room pages below_start below →
-    last_count w start pages ≤ 21 → RowInside w (level_row w start pages fenced below_start below)
+pub level_row_inside : (w : List ℕ) (start room pages : ℕ) (fenced : Bool) (below : LevelPlace) → LevelInside w start room pages below.start below.pages →
+    last_count w start pages ≤ 21 → RowInside w (level_row w start pages fenced below)
 unfolding level_row row_place row_length
-level_row_inside w start room pages fenced below_start below inside most = record {
+level_row_inside w start room pages fenced below inside most = record {
   slots_inside = λ n h. omega (arith, inside.pages_most, inside.room_inside);
   below_inside = inside.below_inside;
   slots_few = omega (arith, inside.pages_most, inside.room_small);
 }
 
-pub head_row_inside : (w : List ℕ) (start room count below_start below : ℕ) → HeadInside w start room count below_start below →
-    RowInside w (head_row start count below_start below)
+pub head_row_inside : (w : List ℕ) (start room count : ℕ) (below : LevelPlace) → HeadInside w start room count below.start below.pages →
+    RowInside w (head_row start count below)
 unfolding head_row row_place
-head_row_inside w start room count below_start below inside = record {
+head_row_inside w start room count below inside = record {
   slots_inside = λ n h. omega (arith, inside.count_most, inside.room_inside);
   below_inside = inside.below_inside;
   slots_few = omega (arith, inside.count_most, inside.room_small);

@@ -115,44 +115,44 @@ module _ (w : List ℕ) (row : Row) where
   wanted_last n r p h = rw (le-ltb r row.slots h) refl
 
   module _ (n r p : ℕ) (some : r < row.slots) where
-    pub wanted_fence : entry_next (first_below w row) row.below p (row_slot w row r).pair ≡ false →
+    pub wanted_fence : entry_next (first_below w row) row.below.pages p (row_slot w row r).pair ≡ false →
         fence_of (first_below w row) p ≡ wanted_at w row n r p
     unfolding wanted_at entry_at wanted
     wanted_fence e = rw (lt-ltb r row.slots some) (rw e refl)
 
-    pub wanted_inner : entry_next (first_below w row) row.below p (row_slot w row r).pair ≡ true → fenced_at row.fenced n ≡ true →
+    pub wanted_inner : entry_next (first_below w row) row.below.pages p (row_slot w row r).pair ≡ true → fenced_at row.fenced n ≡ true →
         internal (row_slot w row r).pair (p - 1) ≡ wanted_at w row n r p
     unfolding wanted_at entry_at wanted
     wanted_inner e f = rw (lt-ltb r row.slots some) (rw (e, f) refl)
 
-    pub wanted_index : entry_next (first_below w row) row.below p (row_slot w row r).pair ≡ true → fenced_at row.fenced n ≡ false →
+    pub wanted_index : entry_next (first_below w row) row.below.pages p (row_slot w row r).pair ≡ true → fenced_at row.fenced n ≡ false →
         index (entry_of (row_slot w row r)) ≡ wanted_at w row n r p
     unfolding wanted_at entry_at wanted
     wanted_index e f = rw (lt-ltb r row.slots some) (rw (e, f) refl)
 
-  pub something_left : (r p : ℕ) → nothing_left row r p ≡ false → row.slots ≤ r → p < row.below
+  pub something_left : (r p : ℕ) → nothing_left row r p ≡ false → row.slots ≤ r → p < row.below.pages
   unfolding nothing_left
-  something_left r p e h = leb-false row.below p (rw (le-leb row.slots r h) at e)
+  something_left r p e h = leb-false row.below.pages p (rw (le-leb row.slots r h) at e)
 
   -- So a slot is the wanted one exactly if it is what the stream has next.
-  ended_at : (r p : ℕ) → nothing_left row r p ≡ ended row.fenced (first_below w row) row.below p (entry_at w row r)
+  ended_at : (r p : ℕ) → nothing_left row r p ≡ ended row.fenced (first_below w row) row.below.pages p (entry_at w row r)
   unfolding ended entry_at nothing_left
   ended_at r p = chosen (ltb r row.slots) refl
     where
       chosen : (b : Bool) → ltb r row.slots ≡ b → nothing_left row r p ≡
-          ended row.fenced (first_below w row) row.below p (cond b (entry_of (row_slot w row r) ∷ []) [])
+          ended row.fenced (first_below w row) row.below.pages p (cond b (entry_of (row_slot w row r) ∷ []) [])
       chosen true e = rw (lt-leb row.slots r (ltb-true r row.slots e)) refl
       chosen false e = rw (le-leb row.slots r (ltb-false r row.slots e)) refl
 
   wanted_seen : (n p : ℕ) → n ≤ row.slots → (s : Slot) →
-      (not (ended row.fenced (first_below w row) row.below p (entries_of (slots_on w row n))) &&
-      same_slot s (wanted row.fenced (first_below w row) row.below n p (entries_of (slots_on w row n)))) ≡ is_wanted w row n (next_entry w row n) p s
+      (not (ended row.fenced (first_below w row) row.below.pages p (entries_of (slots_on w row n))) &&
+      same_slot s (wanted row.fenced (first_below w row) row.below.pages n p (entries_of (slots_on w row n)))) ≡ is_wanted w row n (next_entry w row n) p s
   unfolding is_wanted wanted_at wanted ended
   wanted_seen n p h s =
       rw (
         ended_at (next_entry w row n) p,
-        seen (ended row.fenced (first_below w row) row.below p) (λ e es. refl) n h,
-        seen (wanted row.fenced (first_below w row) row.below n p) (λ e es. refl) n h,
+        seen (ended row.fenced (first_below w row) row.below.pages p) (λ e es. refl) n h,
+        seen (wanted row.fenced (first_below w row) row.below.pages n p) (λ e es. refl) n h,
       ) refl
 
   -- An entry is its own next one, so it is the wanted slot exactly if it fits.
@@ -161,15 +161,15 @@ module _ (w : List ℕ) (row : Row) where
   unfolding is_wanted nothing_left entry_fits internal
   entry_wanted n p some f =
       rw (next_here n some f, lt-leb row.slots n some)
-      (chosen (fenced_at row.fenced n) (entry_next (first_below w row) row.below p (row_slot w row n).pair) refl refl)
+      (chosen (fenced_at row.fenced n) (entry_next (first_below w row) row.below.pages p (row_slot w row n).pair) refl refl)
     where
       no_fence : (s : Slot) → s ≡ wanted_at w row n n p → fence_kind s.kind ≡ true → same_slot (row_slot w row n) (wanted_at w row n n p) ≡ false
       no_fence s e k = rw (← e) (slots_apart (row_slot w row n) s (f ∙ ap not (sym k)))
 
       outer : fence_kind (fence_of (first_below w row) p).kind ≡ true
-      outer = ap fence_kind (fence_kind_lem row.fenced (first_below w row) row.below p)
+      outer = ap fence_kind (fence_kind_lem row.fenced (first_below w row) row.below.pages p)
 
-      chosen : (a b : Bool) → fenced_at row.fenced n ≡ a → entry_next (first_below w row) row.below p (row_slot w row n).pair ≡ b →
+      chosen : (a b : Bool) → fenced_at row.fenced n ≡ a → entry_next (first_below w row) row.below.pages p (row_slot w row n).pair ≡ b →
           same_slot (row_slot w row n) (wanted_at w row n n p) ≡ (not a && b && is_index (row_slot w row n))
       chosen true true a b = no_fence (internal (row_slot w row n).pair (p - 1)) (wanted_inner n n p some b a) refl
       chosen true false a b = no_fence (fence_of (first_below w row) p) (wanted_fence n n p some b) outer
@@ -179,7 +179,7 @@ module _ (w : List ℕ) (row : Row) where
   -- At a slot, the row goes on where it is the wanted one, and where an entry rises.
   goes_on_lem : (n p c : ℕ) (last : Pair) → n < row.slots → goes_on w row n p c last ≡
       (is_wanted w row n (next_entry w row n) p (row_slot w row n) &&
-      are_stream row.fenced (first_below w row) row.below (n + 1) (passed (row_slot w row n).kind p) (slots_on w row (n + 1)) &&
+      are_stream row.fenced (first_below w row) row.below.pages (n + 1) (passed (row_slot w row n).kind p) (slots_on w row (n + 1)) &&
       rising c last (entries_of (row_slot w row n ∷ slots_on w row (n + 1))))
   unfolding goes_on are_stream
   goes_on_lem n p c last h =
@@ -194,7 +194,7 @@ module _ (w : List ℕ) (row : Row) where
       goes_on_lem n p c last some ∙
       rw (entries_fence (row_slot w row n) (slots_on w row (n + 1)) f, goes_on)
       (and_assoc (is_wanted w row n (next_entry w row n) p (row_slot w row n))
-      (are_stream row.fenced (first_below w row) row.below (n + 1) (passed (row_slot w row n).kind p) (slots_on w row (n + 1)))
+      (are_stream row.fenced (first_below w row) row.below.pages (n + 1) (passed (row_slot w row n).kind p) (slots_on w row (n + 1)))
       (rising c last (entries_of (slots_on w row (n + 1)))))
 
   pub goes_entry : (n p c : ℕ) (last : Pair) → n < row.slots → fence_kind (row_slot w row n).kind ≡ false → goes_on w row n p c last ≡
@@ -210,7 +210,7 @@ module _ (w : List ℕ) (row : Row) where
         goes_on,
       )
       (and_regroup true (entry_fits w row n p (row_slot w row n))
-      (are_stream row.fenced (first_below w row) row.below (n + 1) p (slots_on w row (n + 1)))
+      (are_stream row.fenced (first_below w row) row.below.pages (n + 1) p (slots_on w row (n + 1)))
       (rises c last (row_slot w row n).pair) (rising (c + 1) (row_slot w row n).pair (entries_of (slots_on w row (n + 1)))))
 
   -- What the walk knows at position n: the next entry, if it is known to be behind, the fences and entries passed, and that the row is
@@ -271,9 +271,9 @@ module _ (w : List ℕ) (row : Row) where
           }
 
   -- At the row's end it is written exactly if no fence is left, and its entries are counted.
-  pub here_ends : (n r p c : ℕ) (last : Pair) → Here n r p c last → row.slots ≤ n → row_written w row ≡ leb row.below p
+  pub here_ends : (n r p c : ℕ) (last : Pair) → Here n r p c last → row.slots ≤ n → row_written w row ≡ leb row.below.pages p
   unfolding goes_on are_stream rising entries_of
-  here_ends n r p c last here h = here.same ∙ rw (slots_on_none n h) (and_true (leb row.below p))
+  here_ends n r p c last here h = here.same ∙ rw (slots_on_none n h) (and_true (leb row.below.pages p))
 
   pub here_counted : (n r p c : ℕ) (last : Pair) → Here n r p c last → row.slots ≤ n → c ≡ length (entries_of (row_slots w row))
   unfolding entries_of

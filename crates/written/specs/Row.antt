@@ -25,25 +25,25 @@ row_slot w row n = slot_at w (row_place row n)
 
 -- The pair in the first slot of page p below, as it stands.
 unfoldable pub first_below : List ℕ → Row → ℕ → Pair
-first_below w row = first_pair w row.below_start
+first_below w row = first_pair w row.below.start
 
 -- A row's slots, and the page heads below, lie inside the words.
 pub record RowInside (w : List ℕ) (row : Row) : Type 0 where
   pub slots_inside : (n : ℕ) → n < row.slots → row_place row n + 3 ≤ length w
-  pub below_inside : row.below_start + words_in_page * row.below ≤ length w
+  pub below_inside : row.below.start + words_in_page * row.below.pages ≤ length w
   pub slots_few : row.slots < 4294967296
 
 -- A row that has no fences: over no pages, and without internal ones.
 pub record Unfenced (row : Row) : Type 0 where
-  pub none_below : row.below ≡ 0
+  pub none_below : row.below.pages ≡ 0
   pub none_inside : row.fenced ≡ false
 
-pub unfenced_told : (row : Row) (b : Bool) → b ≡ (eqb row.below 0 && not row.fenced) → b ≡ true → Unfenced row
+pub unfenced_told : (row : Row) (b : Bool) → b ≡ (eqb row.below.pages 0 && not row.fenced) → b ≡ true → Unfenced row
 unfenced_told row b e t =
     let told = sym e ∙ t in
     record {
-      none_below = eqb-true row.below 0 (and_left (eqb row.below 0) (not row.fenced) told);
-      none_inside = not-true row.fenced (and_right (eqb row.below 0) (not row.fenced) told);
+      none_below = eqb-true row.below.pages 0 (and_left (eqb row.below.pages 0) (not row.fenced) told);
+      none_inside = not-true row.fenced (and_right (eqb row.below.pages 0) (not row.fenced) told);
     }
 
 -- Whether an entry is above the last one of c before it, and whether entries ascend from there on.
@@ -56,7 +56,7 @@ rising c last (e ∷ es) = rises c last e.pair && rising (c + 1) e.pair es
 
 -- Neither an entry nor a fence is left.
 unfoldable pub nothing_left : Row → ℕ → ℕ → Bool
-nothing_left row r p = leb row.slots r && leb row.below p
+nothing_left row r p = leb row.slots r && leb row.below.pages p
 
 module _ (w : List ℕ) (row : Row) where
   -- The slots from position n on; all of them; the position of the next entry.
@@ -79,18 +79,18 @@ module _ (w : List ℕ) (row : Row) where
 
   -- The slot that the writing has at position n, and whether a slot is it.
   unfoldable pub wanted_at : ℕ → ℕ → ℕ → Slot
-  wanted_at n r p = wanted row.fenced (first_below w row) row.below n p (entry_at r)
+  wanted_at n r p = wanted row.fenced (first_below w row) row.below.pages n p (entry_at r)
 
   unfoldable pub is_wanted : ℕ → ℕ → ℕ → Slot → Bool
   is_wanted n r p s = not (nothing_left row r p) && same_slot s (wanted_at n r p)
 
   -- Whether an index entry at position n is that slot: no fence is due before it, and its page number is 0.
   unfoldable pub entry_fits : ℕ → ℕ → Slot → Bool
-  entry_fits n p s = not (fenced_at row.fenced n) && entry_next (first_below w row) row.below p s.pair && is_index s
+  entry_fits n p s = not (fenced_at row.fenced n) && entry_next (first_below w row) row.below.pages p s.pair && is_index s
 
   -- Whether the row goes on from position n as the writing of its own entries, which ascend; and whether all of it is that.
   unfoldable pub goes_on : ℕ → ℕ → ℕ → Pair → Bool
-  goes_on n p c last = are_stream row.fenced (first_below w row) row.below n p (slots_on n) && rising c last (entries_of (slots_on n))
+  goes_on n p c last = are_stream row.fenced (first_below w row) row.below.pages n p (slots_on n) && rising c last (entries_of (slots_on n))
 
   unfoldable pub row_written : Bool
-  row_written = are_stream row.fenced (first_below w row) row.below 0 0 row_slots && ascending (entries_of row_slots)
+  row_written = are_stream row.fenced (first_below w row) row.below.pages 0 0 row_slots && ascending (entries_of row_slots)

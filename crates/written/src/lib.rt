@@ -3,21 +3,21 @@
 // p − 1.
 #![tactic(auto)]
 
-ghost use Rattle.std.specs.Prelude.{◌+◌, ◌-◌, ◌*◌, ◌^◌, ◌≤◌, ◌<◌, ◌≡◌, true, ◌&&◌, length};
-ghost use Rattle.rules.specs.Level.{index, internal, fence_of};
+ghost use Rattle.std.specs.Prelude.{◌+◌, ◌-◌, ◌*◌, ◌^◌, ◌≤◌, ◌<◌, ◌≡◌, ◌&&◌, length, is_some, IfSome};
+ghost use Rattle.rules.specs.Level.{fence_of};
 ghost use Rattle.rules.specs.Sound.{slots_from, entries_of};
 ghost use Rattle.written.specs.Written.{level_written, head_written, LevelInside, HeadInside};
-ghost use Rattle.layout.specs.Words.{first_pair, level_run};
-ghost use Rattle.layout.specs.Stream.{same_slot, entry_of, is_index, passed, entry_next, fenced_at};
-ghost use Rattle.written.specs.Row.{RowInside, Unfenced, row_place, row_slot, row_slots, next_entry, nothing_left, wanted_at, is_wanted, entry_fits, rises, row_written};
+ghost use Rattle.layout.specs.Words.{level_run};
+ghost use Rattle.layout.specs.Stream.{same_slot, is_index, passed, entry_next};
+ghost use Rattle.written.specs.Row.{RowInside, Unfenced, first_below, row_place, row_slot, row_slots, next_entry, nothing_left, wanted_at, is_wanted, entry_fits, rises, row_written};
 ghost use Rattle.written.specs.Tested.{filled, last_right, unused};
 ghost use Rattle.geometry.specs.Places.{words_in_page, words_in_slot};
 
+use entries::Entry;
 use geometry::{ERASED, FIRST_SLOT, LevelPlace, PAGE_SLOTS, PAGE_WORDS, SLOT_WORDS};
-use laws::{both, either};
 use layout::{entry_next, fence_of, fenced_at, inner_fence};
 use page::{is_fence, is_normal};
-use slot::{Kind, Pair, Pid, Slot, comes_before, kind_number, least_pair, read_slot};
+use slot::{Kind, Pair, Pid, Slot, comes_before, least_pair, read_slot};
 
 // A row of slots: the head's, or those of a level's pages in order. It stands from start on, cut into pages of 21 or not; above the bottom
 // an entry that is first in a page has an internal fence before it. Its fences name the pages of the level below.
@@ -27,30 +27,27 @@ pub struct Row {
     pub paged: bool,
     pub fenced: bool,
     pub slots: usize,
-    pub below_start: usize,
-    pub below: u32,
+    pub below: LevelPlace,
 }
 
-// Whether a row is its writing, and how many index entries it has if so.
+// A row with the words that it stands in; the pages below stand there too.
 #[derive(Clone, Copy)]
-pub struct Verdict {
-    pub ok: bool,
-    pub entries: u32,
+struct RowIn<'a> {
+    words: &'a [u32],
+    row: Row,
+    ghost inside: { RowInside words.now row },
 }
 
-// Whether a level is the writing of its own index entries over the pages below: its pages are filled left to right, its slots are the
+// The index entries of a level, where it is the writing of them over the pages below: its pages are filled left to right, its slots are the
 // stream, and every word behind them is unused.
-pub fn level_written(words: &[u32], own: LevelPlace, fenced: bool, below: LevelPlace) -> Verdict
+pub fn level_written(words: &[u32], own: LevelPlace, fenced: bool, below: LevelPlace) -> Option<u32>
     requires { LevelInside words.now own.start own.room own.pages below.start below.pages }
-    ensures exact { result.ok ≡ level_written words.now own.start own.room own.pages fenced below.start below.pages }
-    ensures counted { result.ok ≡ true → result.entries ≡ length (entries_of (level_run words.now own.start own.pages)) }
+    ensures exact { is_some result ≡ level_written words.now own.start own.room own.pages fenced below.start below.pages }
+    ensures counted { IfSome result (λ n. n ≡ length (entries_of (level_run words.now own.start own.pages))) }
 {
     let start = own.start as usize;
     if !pages_filled(words, start, own.pages) {
-        return Verdict {
-            ok: false,
-            entries: 0,
-        };
+        return None;
     }
     let last = (own.pages - 1) as usize;
     let count = words[start + PAGE_WORDS * last] as usize;
@@ -59,28 +56,25 @@ pub fn level_written(words: &[u32], own: LevelPlace, fenced: bool, below: LevelP
         paged: true,
         fenced,
         slots: PAGE_SLOTS as usize * last + count,
-        below_start: below.start as usize,
-        below: below.pages,
+        below,
     };
-    row_in_room(
-        words,
-        row,
+    RowIn { words, row }.in_room(
         start + PAGE_WORDS * last + FIRST_SLOT + SLOT_WORDS * count,
         start + PAGE_WORDS * own.room as usize,
     )
 }
 
-// Whether the head is the writing of its own index entries over the pages of level 1.
+// The index entries of the head, where it is the writing of them over the pages of level 1.
 pub fn head_written(
     words: &[u32],
     start: usize,
     room: u32,
     count: u32,
     below: LevelPlace,
-) -> Verdict
+) -> Option<u32>
     requires { HeadInside words.now start room count below.start below.pages }
-    ensures exact { result.ok ≡ head_written words.now start room count below.start below.pages }
-    ensures counted { result.ok ≡ true → result.entries ≡ length (entries_of (slots_from words.now start count)) }
+    ensures exact { is_some result ≡ head_written words.now start room count below.start below.pages }
+    ensures counted { IfSome result (λ n. n ≡ length (entries_of (slots_from words.now start count))) }
 {
     let slots = count as usize;
     let row = Row {
@@ -88,33 +82,12 @@ pub fn head_written(
         paged: false,
         fenced: false,
         slots,
-        below_start: below.start as usize,
-        below: below.pages,
+        below,
     };
-    row_in_room(
-        words,
-        row,
+    RowIn { words, row }.in_room(
         start + SLOT_WORDS * slots,
         start + SLOT_WORDS * room as usize,
     )
-}
-
-// Whether a row is its writing, and the words behind it, to the end of its room, are unused.
-fn row_in_room(words: &[u32], row: Row, used: usize, end: usize) -> Verdict
-    requires row_inside { RowInside words.now row }
-    requires end_in_bounds { end ≤ length words.now }
-    ensures exact { result.ok ≡ (row_written words.now row && unused words.now used end) }
-    ensures counted { result.ok ≡ true → result.entries ≡ length (entries_of (row_slots words.now row)) }
-{
-    let verdict = row_written(words, row);
-    if !verdict.ok {
-        return verdict;
-    }
-    let ok = unused(words, used, end);
-    Verdict {
-        ok,
-        entries: verdict.entries,
-    }
 }
 
 // Whether pages are filled left to right: all full but the last, which has a slot unless it is the only page.
@@ -123,230 +96,207 @@ fn pages_filled(words: &[u32], start: usize, pages: u32) -> bool
     ensures { result ≡ filled words.now start pages }
 {
     let last = pages - 1;
-    let mut p: u32 = 0;
-    while p < last {
+    for p in 0..last {
         if words[start + PAGE_WORDS * p as usize] != PAGE_SLOTS {
             return false;
         }
-        p += 1;
     }
     last_right(words[start + PAGE_WORDS * last as usize], last)
 }
 
 // Whether the last page's count is 1..21, or 0 in the only page.
+#[tactic(auto, unfolding(crate::specs::Tested::last_right))]
 fn last_right(count: u32, last: u32) -> bool
     ensures { result ≡ last_right count last }
 {
-    if PAGE_SLOTS < count {
-        return false;
-    }
-    if 1 <= count {
-        return true;
-    }
-    last == 0
+    count <= PAGE_SLOTS && (1 <= count || last == 0)
 }
 
 // Whether the words from a place to another are all unused.
-fn unused(words: &[u32], from: usize, to: usize) -> bool
+pub fn unused(words: &[u32], from: usize, to: usize) -> bool
     requires { to ≤ length words.now }
     ensures { result ≡ unused words.now from to }
 {
     let mut all = true;
-    let mut i = from;
-    while i < to {
-        all = both(all, words[i] == ERASED);
-        i += 1;
+    for i in from..to {
+        all &= words[i] == ERASED;
     }
     all
 }
 
-// Whether a row is the writing of its own entries, which ascend; where it has no fences, by a pass without branches.
-fn row_written(words: &[u32], row: Row) -> Verdict
-    requires { RowInside words.now row }
-    ensures exact { result.ok ≡ row_written words.now row }
-    ensures counted { result.ok ≡ true → result.entries ≡ length (entries_of (row_slots words.now row)) }
-{
-    if both(row.below == 0, !row.fenced) {
-        return bottom_written(words, row);
+impl<'a> RowIn<'a> {
+    // The index entries of the row, where it is the writing of them and the words behind it, to the end of its room, are unused.
+    fn in_room(&self, used: usize, end: usize) -> Option<u32>
+        requires { end ≤ length self.now.words.now }
+        ensures exact { is_some result ≡ (row_written self.now.words.now self.now.row && unused self.now.words.now used end) }
+        ensures counted { IfSome result (λ n. n ≡ length (entries_of (row_slots self.now.words.now self.now.row))) }
+    {
+        let entries = self.row_written()?;
+        unused(self.words, used, end).then_some(entries)
     }
-    stream_written(words, row)
-}
 
-// Whether a row that has no fences is the writing of its own entries: index entries alone, which ascend.
-fn bottom_written(words: &[u32], row: Row) -> Verdict
-    requires row_inside { RowInside words.now row }
-    requires unfenced { Unfenced row }
-    ensures exact { result.ok ≡ row_written words.now row }
-    ensures counted { result.ok ≡ true → result.entries ≡ length (entries_of (row_slots words.now row)) }
-{
-    let mut ok = true;
-    let mut last = least_pair();
-    let mut n = 0;
-    while n < row.slots {
-        let slot = slot_of(words, row, n);
-        let pair = slot.pair;
-        let fits = both(is_index(slot), rises(n as u32, last, pair));
-        ok = both(ok, fits);
-        last = pair;
-        n += 1;
+    // The index entries of the row, where it is the writing of them and they ascend; where it has no fences, by a pass without branches.
+    fn row_written(&self) -> Option<u32>
+        ensures exact { is_some result ≡ row_written self.now.words.now self.now.row }
+        ensures counted { IfSome result (λ n. n ≡ length (entries_of (row_slots self.now.words.now self.now.row))) }
+    {
+        if self.row.below.pages == 0 && !self.row.fenced {
+            return self.bottom_written();
+        }
+        self.stream_written()
     }
-    Verdict {
-        ok,
-        entries: row.slots as u32,
-    }
-}
 
-// Whether a row is the writing of its own entries, which ascend, as a stream: each slot is the one that the stream wants.
-fn stream_written(words: &[u32], row: Row) -> Verdict
-    requires { RowInside words.now row }
-    ensures exact { result.ok ≡ row_written words.now row }
-    ensures counted { result.ok ≡ true → result.entries ≡ length (entries_of (row_slots words.now row)) }
-{
-    let mut n = 0;
-    let mut r = 0;
-    let mut p: u32 = 0;
-    let mut entries: u32 = 0;
-    let mut last = least_pair();
-    while n < row.slots {
-        let found = slot_of(words, row, n);
-        let pair = found.pair;
-        let kind = found.kind;
-        if is_fence(kind) {
-            r = entry_behind(words, row, n, r);
-            if !is_wanted(words, row, n, r, p, found) {
-                return Verdict { ok: false, entries };
+    // The same of a row that has no fences: index entries alone, which ascend.
+    fn bottom_written(&self) -> Option<u32>
+        requires { Unfenced self.now.row }
+        ensures exact { is_some result ≡ row_written self.now.words.now self.now.row }
+        ensures counted { IfSome result (λ n. n ≡ length (entries_of (row_slots self.now.words.now self.now.row))) }
+    {
+        let mut ok = true;
+        let mut last = least_pair();
+        for n in 0..self.row.slots {
+            let slot = self.slot_of(n);
+            ok &= is_index(slot) & rises(n as u32, last, slot.pair);
+            last = slot.pair;
+        }
+        ok.then_some(self.row.slots as u32)
+    }
+
+    // The same as a stream: each slot is the one that the stream wants.
+    fn stream_written(&self) -> Option<u32>
+        ensures exact { is_some result ≡ row_written self.now.words.now self.now.row }
+        ensures counted { IfSome result (λ n. n ≡ length (entries_of (row_slots self.now.words.now self.now.row))) }
+    {
+        let mut r = 0;
+        let mut p: u32 = 0;
+        let mut entries: u32 = 0;
+        let mut last = least_pair();
+        for n in 0..self.row.slots {
+            let found = self.slot_of(n);
+            if is_fence(found.kind) {
+                r = self.entry_behind(n, r);
+                if !self.is_wanted(n, r, p, found) {
+                    return None;
+                }
+                p = passed(found.kind, p);
+            } else {
+                if !(self.entry_fits(n, p, found) & rises(entries, last, found.pair)) {
+                    return None;
+                }
+                last = found.pair;
+                entries += 1;
             }
-            p = passed(kind, p);
-            n += 1;
+        }
+        (self.row.below.pages <= p).then_some(entries)
+    }
+
+    // Whether an index entry at position n is the slot that the writing has there: no fence is due before it, and its page number is 0.
+    #[tactic(auto, unfolding(crate::specs::Row::entry_fits, crate::specs::Row::first_below))]
+    fn entry_fits(&self, n: usize, p: u32, entry: Slot) -> bool
+        ensures { result ≡ entry_fits self.now.words.now self.now.row n p entry }
+    {
+        !fenced_at(self.row.fenced, n) & self.comes_next(p, entry.pair) & is_index(entry)
+    }
+
+    // The position of the first index entry from n on: r, if that was found before and is not passed.
+    fn entry_behind(&self, n: usize, r: usize) -> usize
+        requires n_le_slots { n ≤ self.now.row.slots }
+        requires r_value { n < r → r ≡ next_entry self.now.words.now self.now.row n }
+        ensures { result ≡ next_entry self.now.words.now self.now.row n }
+    {
+        if n < r { r } else { self.next_entry(n) }
+    }
+
+    // Whether a slot is the one that the writing has at position n.
+    #[tactic(auto, unfolding(crate::specs::Row::is_wanted))]
+    fn is_wanted(&self, n: usize, r: usize, p: u32, found: Slot) -> bool
+        ensures { result ≡ is_wanted self.now.words.now self.now.row n r p found }
+    {
+        !self.nothing_left(r, p) && same_slot(found, self.wanted(n, r, p))
+    }
+
+    // The slot that the writing has at position n, where an entry or a fence is left.
+    fn wanted(&self, n: usize, r: usize, p: u32) -> Slot
+        requires { self.now.row.slots ≤ r → p < self.now.row.below.pages }
+        ensures { result ≡ wanted_at self.now.words.now self.now.row n r p }
+    {
+        if self.row.slots <= r {
+            return self.fence_of(p);
+        }
+        let entry = self.slot_of(r);
+        if !self.comes_next(p, entry.pair) {
+            return self.fence_of(p);
+        }
+        if fenced_at(self.row.fenced, n) {
+            return inner_fence(entry.pair, Pid(p));
+        }
+        entries::index_of(Entry {
+            pair: entry.pair,
+            normal: is_normal(entry.kind),
+        })
+    }
+
+    // Whether neither an entry nor a fence is left.
+    #[tactic(auto, unfolding(crate::specs::Row::nothing_left))]
+    fn nothing_left(&self, r: usize, p: u32) -> bool
+        ensures { result ≡ nothing_left self.now.row r p }
+    {
+        self.row.slots <= r && self.row.below.pages <= p
+    }
+
+    // Whether an entry of this pair comes before fence p.
+    #[tactic(auto, unfolding(crate::specs::Row::first_below))]
+    fn comes_next(&self, p: u32, pair: Pair) -> bool
+        ensures { result ≡ entry_next (first_below self.now.words.now self.now.row) self.now.row.below.pages p pair }
+    {
+        let below = self.row.below;
+        entry_next(self.words, below.start as usize, below.pages, Pid(p), pair)
+    }
+
+    // Fence p, of a page below.
+    #[tactic(auto, unfolding(crate::specs::Row::first_below))]
+    fn fence_of(&self, p: u32) -> Slot
+        requires { p < self.now.row.below.pages }
+        ensures { result ≡ fence_of (first_below self.now.words.now self.now.row) p }
+    {
+        fence_of(self.words, self.row.below.start as usize, Pid(p))
+    }
+
+    // The position of the first index entry from a position on, or of the row's end.
+    fn next_entry(&self, from: usize) -> usize
+        requires { from ≤ self.now.row.slots }
+        ensures { result ≡ next_entry self.now.words.now self.now.row from }
+    {
+        for n in from..self.row.slots {
+            if !is_fence(self.slot_of(n).kind) {
+                return n;
+            }
+        }
+        self.row.slots
+    }
+
+    // The slot at position n of the row.
+    #[tactic(auto, unfolding(crate::specs::Row::row_slot))]
+    fn slot_of(&self, n: usize) -> Slot
+        requires { n < self.now.row.slots }
+        ensures { result ≡ row_slot self.now.words.now self.now.row n }
+    {
+        read_slot(self.words, self.place_of(n))
+    }
+
+    // Where the slot at position n begins.
+    #[tactic(auto, unfolding(crate::specs::Row::row_place))]
+    fn place_of(&self, n: usize) -> usize
+        requires { n < self.now.row.slots }
+        ensures exact { result ≡ row_place self.now.row n }
+        ensures inside { result + words_in_slot ≤ length self.now.words.now }
+    {
+        if self.row.paged {
+            let slots = PAGE_SLOTS as usize;
+            self.row.start + PAGE_WORDS * (n / slots) + FIRST_SLOT + SLOT_WORDS * (n % slots)
         } else {
-            let fits = entry_fits(words, row, n, p, found);
-            if !both(fits, rises(entries, last, pair)) {
-                return Verdict { ok: false, entries };
-            }
-            last = pair;
-            entries += 1;
-            n += 1;
+            self.row.start + SLOT_WORDS * n
         }
-    }
-    Verdict {
-        ok: row.below <= p,
-        entries,
-    }
-}
-
-// Whether an index entry at position n is the slot that the writing has there: no fence is due before it, and its page number is 0.
-fn entry_fits(words: &[u32], row: Row, n: usize, p: u32, entry: Slot) -> bool
-    requires { RowInside words.now row }
-    ensures { result ≡ entry_fits words.now row n p entry }
-{
-    let pair = entry.pair;
-    let next = entry_next(words, row.below_start, row.below, Pid(p), pair);
-    let due = both(!fenced_at(row.fenced, n), next);
-    both(due, is_index(entry))
-}
-
-// The position of the first index entry from n on: r, if that was found before and is not passed.
-fn entry_behind(words: &[u32], row: Row, n: usize, r: usize) -> usize
-    requires row_inside { RowInside words.now row }
-    requires n_le_slots { n ≤ row.slots }
-    requires r_value { n < r → r ≡ next_entry words.now row n }
-    ensures { result ≡ next_entry words.now row n }
-{
-    if n < r {
-        return r;
-    }
-    next_entry(words, row, n)
-}
-
-// Whether a slot is the one that the writing has at position n.
-fn is_wanted(words: &[u32], row: Row, n: usize, r: usize, p: u32, found: Slot) -> bool
-    requires { RowInside words.now row }
-    ensures { result ≡ is_wanted words.now row n r p found }
-{
-    if nothing_left(row, r, p) {
-        return false;
-    }
-    let wanted = wanted(words, row, n, r, p);
-    same_slot(found, wanted)
-}
-
-// The slot that the writing has at position n, where an entry or a fence is left.
-fn wanted(words: &[u32], row: Row, n: usize, r: usize, p: u32) -> Slot
-    requires row_inside { RowInside words.now row }
-    requires p_lt_below { row.slots ≤ r → p < row.below }
-    ensures { result ≡ wanted_at words.now row n r p }
-{
-    if row.slots <= r {
-        return fence_of(words, row.below_start, Pid(p));
-    }
-    let entry = slot_of(words, row, r);
-    let pair = entry.pair;
-    if !entry_next(words, row.below_start, row.below, Pid(p), pair) {
-        return fence_of(words, row.below_start, Pid(p));
-    }
-    if fenced_at(row.fenced, n) {
-        return inner_fence(pair, Pid(p));
-    }
-    index_of(entry)
-}
-
-// Whether neither an entry nor a fence is left.
-fn nothing_left(row: Row, r: usize, p: u32) -> bool
-    ensures { result ≡ nothing_left row r p }
-{
-    row.slots <= r && row.below <= p
-}
-
-// The position of the first index entry from a position on, or of the row's end.
-fn next_entry(words: &[u32], row: Row, from: usize) -> usize
-    requires row_inside { RowInside words.now row }
-    requires from_le_slots { from ≤ row.slots }
-    ensures { result ≡ next_entry words.now row from }
-{
-    let mut n = from;
-    while n < row.slots {
-        let slot = slot_of(words, row, n);
-        let kind = slot.kind;
-        if !is_fence(kind) {
-            return n;
-        }
-        n += 1;
-    }
-    n
-}
-
-// The slot at position n of a row.
-fn slot_of(words: &[u32], row: Row, n: usize) -> Slot
-    requires { row_place row n + words_in_slot ≤ length words.now }
-    ensures { result ≡ row_slot words.now row n }
-{
-    if row.paged {
-        let slots = PAGE_SLOTS as usize;
-        return read_slot(
-            words,
-            row.start + PAGE_WORDS * (n / slots) + FIRST_SLOT + SLOT_WORDS * (n % slots),
-        );
-    }
-    read_slot(words, row.start + SLOT_WORDS * n)
-}
-
-// The slot that an index entry is written in.
-fn index_of(entry: Slot) -> Slot
-    ensures { result ≡ index (entry_of entry) }
-{
-    let pair = entry.pair;
-    let kind = entry.kind;
-    if is_normal(kind) {
-        return Slot {
-            pair,
-            kind: Kind::Normal,
-            page: Pid(0),
-        };
-    }
-    Slot {
-        pair,
-        kind: Kind::Filter,
-        page: Pid(0),
     }
 }
 
@@ -356,45 +306,30 @@ fn passed(kind: Kind, p: u32) -> u32
     ensures { result ≡ passed kind p }
 {
     match kind {
-        Kind::Normal => p,
-        Kind::Filter => p,
         Kind::External => p + 1,
-        Kind::Internal => p,
+        _ => p,
     }
 }
 
 // Whether an entry is above the last of those before it, if there are any.
+#[tactic(auto, unfolding(crate::specs::Row::rises))]
 pub fn rises(entries: u32, last: Pair, pair: Pair) -> bool
     ensures { result ≡ rises entries last pair }
 {
-    either(entries == 0, comes_before(last, pair))
+    (entries == 0) | comes_before(last, pair)
 }
 
 // Whether a slot is the one that its index entry is written in: no fence, with page number 0.
+#[tactic(auto, unfolding(layout::specs::Stream::is_index))]
 fn is_index(slot: Slot) -> bool
     ensures { result ≡ is_index slot }
 {
-    let kind = slot.kind;
-    let page = slot.page;
-    both(!is_fence(kind), page.0 == 0)
+    !is_fence(slot.kind) & (slot.page.0 == 0)
 }
 
 // Whether two slots are one.
 pub fn same_slot(a: Slot, b: Slot) -> bool
     ensures { result ≡ same_slot a b }
 {
-    let here = a.pair;
-    let there = b.pair;
-    if here.badge != there.badge {
-        return false;
-    }
-    if here.floor.0 != there.floor.0 {
-        return false;
-    }
-    let kind = a.kind;
-    let other = b.kind;
-    if kind_number(kind) != kind_number(other) {
-        return false;
-    }
-    a.page.0 == b.page.0
+    a == b
 }

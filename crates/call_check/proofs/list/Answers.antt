@@ -1,30 +1,18 @@
--- `list` gives the paper's reply and every word of the slice: the opening tests' refusal, or what the list on the open store gives. Assumes nothing.
-use mathlib.Core.Path.{subst, ◌∙◌}
-use Rattle.opening.specs.Opening.{Opens}
-use Rattle.call_check.specs.List.{list_refused_lem, list_opened}
-use borrow.Author.Rules.{rules}
+-- `list` writes the held pairs of a sound store: its levels ascend. Assumes nothing.
+use mathlib.Core.Path.{sym, ap, ◌∙◌}
+use Rattle.entries.specs.Ready.{sound_ready}
+use Rattle.call_check.specs.List.{listed_reply, list_passes}
 use Rattle.call_check.proofs.list.Goals as goal
 
-pub list_open-requires : goal.list_open-requires
-list_open-requires c =
-    let w = c.args.store.now in
-    subst (Opens w) c.in-Store.is c.open_store.ensures
+pub list_pairs-requires : goal.list_pairs-requires
+list_pairs-requires c =
+    let s = c.in_ok-store.store in
+    let ready = sound_ready s.geometry s.words.now (sym c.in_ok-whole_fault.ensures) in record {
+      pages_within = ready.0;
+      store_value = ready.1;
+    }
 
-pub returns-in-Store : goal.returns-in-Store
-returns-in-Store c =
+pub returns : goal.returns
+returns c =
     let a = c.args in
-    let w = a.store.now in
-    c.list_open.ensures ∙
-    list_opened w a.first a.second a.out.now _ (subst (Opens w) c.in-Store.is c.open_store.ensures)
-
-pub returns-in-Range : goal.returns-in-Range
-returns-in-Range c =
-    let a = c.args in
-    let w = a.store.now in
-    list_refused_lem w a.first a.second a.out.now 0 (subst (Opens w) c.in-Range.is c.open_store.ensures)
-
-pub returns-in-Length : goal.returns-in-Length
-returns-in-Length c =
-    let a = c.args in
-    let w = a.store.now in
-    list_refused_lem w a.first a.second a.out.now 4 (subst (Opens w) c.in-Length.is c.open_store.ensures)
+    ap listed_reply c.list_pairs.ensures ∙ list_passes a.store.now a.first a.second a.out.now c.in_ok-store.store c.in_ok-store.ensures c.in_ok-whole_fault.ensures

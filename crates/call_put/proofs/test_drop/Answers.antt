@@ -12,7 +12,7 @@ returns-then-not-held c =
 pub returns-then-live-eq0 : goal.returns-then-live-eq0
 returns-then-live-eq0 c =
     let a = c.args in
-    drop_none a.held a.live (not-false a.held (not_from_true _ c.if-not-held.false)) c.if-live-eq0.true
+    cc (drop_none a.held a.live (not-false a.held (not_from_true _ c.if-not-held.false)) c.if-live-eq0.true)
 
 pub returns : goal.returns
 returns c =

@@ -1,37 +1,31 @@
 -- `ask_noted` gives ask's answer, and the lines of the walk, or none where an opening test fails. Assumes nothing.
-use mathlib.Core.Path.{refl, subst, ap, ◌∙◌}
-use Rattle.opening.specs.Opening.{Opens, open_lent}
-use Rattle.call_ask.specs.Ask.{walk_reply, ask_refused_lem, ask_opened}
-use Rattle.call_why.specs.Why.{lines_refused, lines_opened}
-use borrow.Author.Rules.{rules}
+use mathlib.Core.Path.{sym, ◌∙◌}
+use Rattle.call_ask.specs.Ask.{ask_unopened, ask_faulty, ask_answers}
+use Rattle.call_why.specs.Why.{lines_unopened, lines_opened}
 use Rattle.call_why.proofs.ask_noted.Goals as goal
 
-pub walk_noted-survey-requires : goal.walk_noted-survey-requires
-walk_noted-survey-requires c =
-    let w = c.args.store.now in
-    open_lent _ _ w (subst (Opens w) c.in-Store.is c.open_store.ensures) refl
-
-pub returns-in-Store : goal.returns-in-Store
-returns-in-Store c =
+pub returns-in_err-store : goal.returns-in_err-store
+returns-in_err-store c =
     let a = c.args in
-    let w = a.store.now in
-    let opens = subst (Opens w) c.in-Store.is c.open_store.ensures in record {
-      answers = c.asked_from.ensures ∙ ap walk_reply c.walk_noted-survey.ensures.walks ∙ ask_opened w a.pair _ opens;
-      notes = c.walk_noted-survey.ensures.notes ∙ lines_opened w a.pair _ opens _;
+    let opens = c.in_err-store.ensures in record {
+      answers = ask_unopened a.store.now a.pair _ _ opens c.from_residual.ensures.1;
+      notes = lines_unopened a.store.now a.pair _ opens _;
     }
 
-pub returns-in-Range : goal.returns-in-Range
-returns-in-Range c =
+pub returns-in_err-walk_noted : goal.returns-in_err-walk_noted
+returns-in_err-walk_noted c =
     let a = c.args in
-    let opens = subst (Opens a.store.now) c.in-Range.is c.open_store.ensures in record {
-      answers = ask_refused_lem a.store.now a.pair 0 opens;
-      notes = lines_refused a.store.now a.pair 0 opens _;
+    let s = c.in_ok-store.store in
+    let opens = c.in_ok-store.ensures in record {
+      answers = ask_faulty a.store.now a.pair s _ _ opens (sym c.in_err-walk_noted.was ∙ c.walk_noted.ensures.walks) c.from_residual-in_err-walk_noted.ensures.1;
+      notes = c.walk_noted.ensures.notes ∙ lines_opened a.store.now a.pair s opens _;
     }
 
-pub returns-in-Length : goal.returns-in-Length
-returns-in-Length c =
+pub returns : goal.returns
+returns c =
     let a = c.args in
-    let opens = subst (Opens a.store.now) c.in-Length.is c.open_store.ensures in record {
-      answers = ask_refused_lem a.store.now a.pair 4 opens;
-      notes = lines_refused a.store.now a.pair 4 opens _;
+    let s = c.in_ok-store.store in
+    let opens = c.in_ok-store.ensures in record {
+      answers = ask_answers a.store.now a.pair s _ opens (sym c.in_ok-walk_noted.was ∙ c.walk_noted.ensures.walks);
+      notes = c.walk_noted.ensures.notes ∙ lines_opened a.store.now a.pair s opens _;
     }

@@ -1,7 +1,6 @@
 -- `keep_if` clears a trail that is not to be kept. Assumes nothing.
 use mathlib.Core.Path.{refl}
 use borrow.Author.Tests.{not-true, not-false}
-use borrow.Author.Rules.{rules}
 use Rattle.std.proofs.lemmas.Bool.{not_from_false, not_from_true}
 use Rattle.call_why.proofs.keep_if.Goals as goal
 

@@ -1,7 +1,6 @@
 -- `why` gives ask's answer, and ask's values with the lines of the walk. Assumes nothing.
 use mathlib.Core.Path.{◌∙◌}
 use Rattle.call_why.specs.Why.{headed_why}
-use borrow.Author.Rules.{rules}
 use Rattle.call_why.proofs.why.Goals as goal
 
 pub returns : goal.returns

@@ -41,11 +41,10 @@ edit_head-requires c =
     let scanned = accepted_scanned a.g a.plan a.store.now (indexed a.entry) a.finding.level c.requires.lent c.requires.accepted a.finding.head c.requires.head_value in
     accepted_editable a.g a.plan a.store.now (indexed a.entry) a.finding.level c.requires.lent c.requires.accepted a.finding.head.reach scanned.reached
 
-pub done-requires : goal.done-requires
-done-requires c =
+pub done_on-requires : goal.done_on-requires
+done_on-requires c =
     let a = c.args in
-    two_clauses (λ v0 v1. record { lent = v0; pages_within = v1 })
-    (edited_ready a.g a.plan a.store.now (indexed a.entry) a.finding.level c.requires.lent c.requires.accepted a.finding.head.reach (eqb a.finding.level 0) _ c.edit_head.ensures)
+    (edited_ready a.g a.plan a.store.now (indexed a.entry) a.finding.level c.requires.lent c.requires.accepted a.finding.head.reach (eqb a.finding.level 0) _ c.edit_head.ensures).1
 
 pub returns : goal.returns
 returns c =
@@ -53,4 +52,4 @@ returns c =
     let scanned = accepted_scanned a.g a.plan a.store.now (indexed a.entry) a.finding.level c.requires.lent c.requires.accepted a.finding.head c.requires.head_value in
     let fills = fills_told a.g a.store.now (eqb a.finding.level 0) a.finding.head.entries scanned.counted _ c.fills_head.ensures in
     edited_told a.g a.plan a.store.now (indexed a.entry) a.finding.level c.requires.lent c.requires.accepted a.finding.head.reach (eqb a.finding.level 0) _
-    c.edit_head.ensures a.work.now _ scanned.reached (sym fills ∙ c.if-fills_head.false) c.done.ensures
+    c.edit_head.ensures a.work.now _ scanned.reached (sym fills ∙ c.if-fills_head.false) c.done_on.ensures

@@ -3,12 +3,6 @@ use Rattle.good.specs.Edit.{live_after}
 use native.Mathlib.Omega.{arith}
 use Rattle.change.proofs.live_after.Goals as goal
 
-pub overflow_add-result : goal.overflow_add-result
-overflow_add-result c = omega (arith, c.requires.up c.if-normal.true)
-
-pub overflow_sub-result : goal.overflow_sub-result
-overflow_sub-result c = omega (arith, c.requires.down c.if-normal.false)
-
 pub returns-then-normal : goal.returns-then-normal
 unfolding live_after
 returns-then-normal c = rw c.if-normal.true

@@ -1,8 +1,6 @@
 -- `fill_words` fills word by word: what is left to fill goes to the same words. Assumes nothing.
-use Prim.Native.Nat.{◌-◌}
-use Rattle.chip.specs.Filling.{Filling, fill_begins, fill_goes_on, fill_ends}
-use borrow.Author.Rules.{rules}
-use native.Mathlib.Omega.{arith}
+use Rattle.std.proofs.Common.{arith}
+use Rattle.chip.specs.Filling.{fill_begins, fill_goes_on, fill_ends}
 use Rattle.chip.proofs.fill_words.Goals as goal
 
 pub loop-i-init : goal.loop-i-init

@@ -1,7 +1,6 @@
 -- `count_entries` counts the index entries of a run, page by page. Assumes nothing.
-use Prim.Native.Nat.{◌-◌}
 use native.Mathlib.Omega.{arith}
-use Rattle.edit.specs.Counts.{PagesCounted, pages_begin, pages_go_on, pages_end}
+use Rattle.edit.specs.Counts.{pages_begin, pages_go_on, pages_end}
 use Rattle.edit.proofs.count_entries.Goals as goal
 
 pub loop-page-init : goal.loop-page-init
@@ -17,12 +16,6 @@ pub overflow_add-count : goal.overflow_add-count
 overflow_add-count c =
     let loop = c.loop-page in
     omega (arith, loop.invariant.few, loop.invariant.inside, c.requires.few_pages, c.count_in_page-count.ensures.few)
-
-pub overflow_add-page : goal.overflow_add-page
-overflow_add-page c = omega (arith, c.loop-page.invariant.inside, c.requires.few_pages)
-
-pub loop-page-smaller : goal.loop-page-smaller
-loop-page-smaller c = omega (arith, c.loop-page-test.true)
 
 pub loop-page-preserved : goal.loop-page-preserved
 loop-page-preserved c =

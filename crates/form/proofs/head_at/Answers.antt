@@ -2,11 +2,10 @@
 use Rattle.geometry.proofs.Lent.{head_room_at}
 use Rattle.geometry.specs.Directory.{place_pages}
 use Rattle.form.specs.Passes.{head_at}
-use borrow.Author.Rules.{rules}
 use Rattle.form.proofs.head_at.Goals as goal
 
 pub returns : goal.returns
 unfolding head_at
 returns c =
-    let a = c.args in
-    rw (c.level_place-below.ensures, place_pages a.g a.store.now 1, head_room_at a.g a.plan a.store.now c.requires)
+    let s = c.args.store.now in
+    rw (c.level_place-below.ensures, place_pages s.geometry s.words.now 1, head_room_at s.geometry s.plan s.words.now s.lent)

@@ -1,6 +1,5 @@
 -- `is_least_fence` tests a slot for the least fence. Assumes nothing.
 use Rattle.form.specs.Passes.{least_fence}
-use borrow.Author.Rules.{rules}
 use Rattle.form.proofs.is_least_fence.Goals as goal
 
 pub returns : goal.returns

@@ -23,22 +23,21 @@ loop-level-init c =
     let lends = c.requires in
     rw c.write_head.ensures (format_begins a.g lends.in_range_lem a.store.now lends.exact)
 
-pub level_place-own-requires : goal.level_place-own-requires
-level_place-own-requires c =
+pub invariant_of-stored : goal.invariant_of-stored
+invariant_of-stored c =
     let a = c.args in
     let lends = c.requires in
-    let l = c.loop-level in record {
-      lent = lent a.g a.plan l.store lends.in_range_lem lends.planned l.invariant.whole;
-      le_level = (l.invariant.some, omega (arith, c.loop-level-test.true, lends.in_range_lem.levels_most));
-    }
+    record { lent = lent a.g a.plan c.loop-level.store lends.in_range_lem lends.planned c.loop-level.invariant.whole }
+
+pub level_place-own-requires : goal.level_place-own-requires
+level_place-own-requires c = (c.loop-level.invariant.some, omega arith)
 
 pub write_first_page-requires : goal.write_first_page-requires
 write_first_page-requires c =
     let a = c.args in
     let lends = c.requires in
     let l = c.loop-level in
-    start_inside a.g a.plan l.store (lent a.g a.plan l.store lends.in_range_lem lends.planned l.invariant.whole) l.level l.invariant.some
-    c.loop-level-test.true c.level_place-own.ensures
+    start_inside a.g a.plan l.store (lent a.g a.plan l.store lends.in_range_lem lends.planned l.invariant.whole) l.level l.invariant.some (omega arith) c.level_place-own.ensures
 
 pub loop-level-preserved : goal.loop-level-preserved
 unfolding first_page_written
@@ -46,8 +45,7 @@ loop-level-preserved c =
     let a = c.args in
     let lends = c.requires in
     let l = c.loop-level in
-    let there = c.loop-level-test.true in
-    rw (c.write_first_page.ensures, c.level_place-own.ensures, place_start a.g l.store l.level) (format_goes_on a.g lends.in_range_lem l.store l.level there l.invariant)
+    rw (c.write_first_page.ensures, c.level_place-own.ensures, place_start a.g l.store l.level) (format_goes_on a.g lends.in_range_lem l.store l.level (omega arith) l.invariant)
 
 pub returns : goal.returns
 returns c =

@@ -6,30 +6,6 @@ use native.Mathlib.Omega.{arith}
 use borrow.Author.Rules.{rules}
 use Rattle.format.proofs.write_directory.Goals as goal
 
-pub bounds-store-1 : goal.bounds-store-1
-bounds-store-1 c = simp length-set (omega arith)
-
-pub bounds-store-2 : goal.bounds-store-2
-bounds-store-2 c = simp length-set (omega arith)
-
-pub bounds-store-3 : goal.bounds-store-3
-bounds-store-3 c = simp length-set (omega arith)
-
-pub bounds-store : goal.bounds-store
-bounds-store c = simp length-set (omega arith)
-
-pub bounds-store-4 : goal.bounds-store-4
-bounds-store-4 c = simp length-set (omega arith)
-
-pub bounds-store-5 : goal.bounds-store-5
-bounds-store-5 c = simp length-set (omega arith)
-
-pub bounds-store-7 : goal.bounds-store-7
-bounds-store-7 c = simp length-set (omega arith)
-
-pub bounds-store-8 : goal.bounds-store-8
-bounds-store-8 c = simp length-set (omega arith)
-
 pub returns : goal.returns
 unfolding directory
 returns c =

@@ -10,9 +10,6 @@ use native.Mathlib.Omega.{arith}
 use borrow.Author.Rules.{rules}
 use Rattle.format.proofs.write_first_page.Goals as goal
 
-pub write_fence-requires : goal.write_fence-requires
-write_fence-requires c = simp length-set (omega arith)
-
 pub returns-then-bottom : goal.returns-then-bottom
 unfolding page_front concat
 returns-then-bottom c = rw c.if-bottom.true

@@ -11,4 +11,4 @@ unfolding rooms head_room store_words work_words plan_of
 returns c =
     let g = c.args.g in
     two_clauses (λ v0 v1. record { exact = v0; small = v1 }) (plan_told g c.requires
-    (rw (c.greater-2.ensures, c.greater.ensures, c.capacities-capacities.ensures.exact, c.rooms-rooms.ensures.exact, level_one g, ← level_after g 1, ← level_after g 2, ← level_after g 3)))
+    (rw (c.max-2.ensures, c.max.ensures, c.capacities-capacities.ensures.exact, c.rooms-rooms.ensures.exact, level_one g, ← level_after g 1, ← level_after g 2, ← level_after g 3)))

@@ -6,4 +6,5 @@ use Rattle.kinds.proofs.all_empty.Goals as goal
 pub returns : goal.returns
 returns c =
     let a = c.args in
-    all_none a.words.now a.runs _ _ _ _ c.is_empty-head.ensures c.is_empty-first.ensures c.is_empty-second.ensures c.is_empty-third.ensures
+    let empty = c.map-empty.result in
+    all_none a.words.now a.runs empty.head empty.first empty.second empty.third (search rules) (search rules) (search rules) (search rules)

@@ -1,13 +1,8 @@
 -- `alternation_fault` tells the first wrong entry of four levels. The loop's invariant: the levels from here on tell what all do. Assumes nothing.
-use Prim.Native.Nat.{◌-◌}
 use mathlib.Core.Path.{◌≡◌, refl, sym, ◌∙◌}
-use mathlib.Core.Bool.{true}
-use lib.ListN.{length}
-use Rattle.rules.specs.Faults.{first_fault}
-use Rattle.entries.specs.Levels.{AllInside, tree_in}
-use Rattle.entries.specs.Ascending.{levels_ascend}
+use Rattle.std.specs.Prelude.{Err}
 use Rattle.kinds.specs.Below.{below_inside, below_ascends}
-use Rattle.kinds.specs.Told.{faults_from, next_told, first_told, none_told}
+use Rattle.kinds.specs.Told.{next_told, first_told, none_told}
 use borrow.Author.Rules.{rules}
 use Rattle.kinds.proofs.alternation_fault.Goals as goal
 
@@ -27,18 +22,19 @@ pub loop-level-preserved : goal.loop-level-preserved
 loop-level-preserved c =
     let w = c.args.words.now in
     let top = c.loop-level.top in
-    let none = sym c.top_fault.ensures ∙ c.in-Sound.is in
+    let none = sym c.top_fault.ensures ∙ c.in_ok-top_fault.was in
     rw c.below-top.ensures (
       next_told w c.loop-level.level 4 top c.loop-level-test.true none ∙ c.loop-level.invariant.0,
       below_inside top _ c.loop-level.invariant.1,
       below_ascends w top c.loop-level.invariant.2,
     )
 
-pub returns-in-FaultAt : goal.returns-in-FaultAt
-returns-in-FaultAt c =
+pub returns-in_err-top_fault : goal.returns-in_err-top_fault
+returns-in_err-top_fault c =
     let w = c.args.words.now in
-    let wrong = sym c.top_fault.ensures ∙ c.in-FaultAt.is in
-    first_told w c.loop-level.level 4 c.loop-level.top _ c.loop-level-test.true wrong ∙ c.loop-level.invariant.0
+    let fault = c.in_err-top_fault.field-0.0 in
+    let handed : c.from_residual.result ≡ Err fault = search rules in
+    handed ∙ first_told w c.loop-level.level 4 c.loop-level.top fault c.loop-level-test.true (sym c.top_fault.ensures ∙ c.in_err-top_fault.was) ∙ c.loop-level.invariant.0
 
 pub returns : goal.returns
 returns c =

@@ -1,9 +1,7 @@
 -- `count_page` counts the kinds of a page's slots. The loop's invariant: what is left of the page completes the counts. Assumes nothing.
-use Prim.Native.Nat.{◌-◌, ◌≤◌}
 use Rattle.entries.specs.Run.{slot_inside}
-use Rattle.entries.specs.Skip.{page_from, slot_read}
-use Rattle.kinds.specs.KindCounts.{Counted, counted_none, counted_slot, page_counted}
-use borrow.Author.Rules.{rules}
+use Rattle.entries.specs.Skip.{slot_read}
+use Rattle.kinds.specs.KindCounts.{counted_none, counted_slot, page_counted}
 use native.Mathlib.Omega.{arith}
 use Rattle.kinds.proofs.count_page.Goals as goal
 
@@ -14,7 +12,7 @@ pub read_slot-read-requires : goal.read_slot-read-requires
 read_slot-read-requires c =
     let a = c.args in
     let pre = c.requires in
-    slot_inside a.words.now a.run _ a.page.0 _ _ _ pre.inside pre.page_lt_pages c.count_in-slots.ensures c.loop-slot-test.true c.place_in.ensures
+    slot_inside a.words.now a.run _ a.page.0 _ _ _ pre.inside pre.page_lt_pages c.count_in-slot-end.ensures c.loop-slot-test.true c.place_in.ensures
 
 pub overflow_add-normal : goal.overflow_add-normal
 overflow_add-normal c = omega (arith, c.loop-slot.invariant, c.loop-slot-test.true, c.one_if-normal.ensures.small)
@@ -22,18 +20,12 @@ overflow_add-normal c = omega (arith, c.loop-slot.invariant, c.loop-slot-test.tr
 pub overflow_add-filters : goal.overflow_add-filters
 overflow_add-filters c = omega (arith, c.loop-slot.invariant, c.loop-slot-test.true, c.one_if-filters.ensures.small)
 
-pub overflow_add-slot : goal.overflow_add-slot
-overflow_add-slot c = omega (arith, c.loop-slot-test.true)
-
-pub loop-slot-smaller : goal.loop-slot-smaller
-loop-slot-smaller c = omega (arith, c.loop-slot-test.true)
-
 pub loop-slot-preserved : goal.loop-slot-preserved
 loop-slot-preserved c =
     let read-slot = c.read_slot-read in
     let IsPlace-in = c.place_in in
     let loop = c.loop-slot in
-    let counted = c.count_in-slots in
+    let counted = c.count_in-slot-end in
     let a = c.args in
     let one-if = c.one_if-normal in
     let w = a.words.now in
@@ -47,5 +39,5 @@ loop-slot-preserved c =
 pub returns : goal.returns
 returns c =
     let a = c.args in
-    page_counted a.words.now a.run a.page.0 c.loop-slot.normal c.loop-slot.filters _ _ c.loop-slot.slot c.count_in-slots.ensures
+    page_counted a.words.now a.run a.page.0 c.loop-slot.normal c.loop-slot.filters _ _ c.loop-slot.slot c.count_in-slot-end.ensures
     c.loop-slot.invariant.0 c.loop-slot-test.false

@@ -1,8 +1,5 @@
 -- `count_run` adds up the counts of a run's pages. The loop's invariant: the pages left complete the counts. Assumes nothing.
-use Prim.Native.Nat.{◌-◌}
-use Rattle.entries.specs.Run.{rest_from, entries_in}
-use Rattle.kinds.specs.KindCounts.{Counted, run_begun, counted_page, run_counted, run_small}
-use borrow.Author.Rules.{rules}
+use Rattle.kinds.specs.KindCounts.{run_begun, counted_page, run_counted, run_small}
 use native.Mathlib.Omega.{arith}
 use Rattle.kinds.proofs.count_run.Goals as goal
 
@@ -25,12 +22,6 @@ overflow_add-filters c =
     let w = a.words.now in
     let so = counted_page w a.run loop.page loop.normal loop.filters loop.invariant count-page.result c.loop-page-test.true count-page.ensures in
     omega (arith, (run_small w a.run _ _ _ so _ c.requires).few_filters)
-
-pub overflow_add-page : goal.overflow_add-page
-overflow_add-page c = omega (arith, c.loop-page-test.true)
-
-pub loop-page-smaller : goal.loop-page-smaller
-loop-page-smaller c = omega (arith, c.loop-page-test.true)
 
 pub loop-page-preserved : goal.loop-page-preserved
 loop-page-preserved c =

@@ -1,7 +1,6 @@
 -- `is_empty` tells that a run has no entries where none is met. Assumes nothing.
 use mathlib.Core.Path.{sym, ◌∙◌}
 use Rattle.entries.specs.Spot.{from_first, none_left}
-use borrow.Author.Rules.{rules}
 use Rattle.kinds.proofs.is_empty.Goals as goal
 
 pub returns : goal.returns

@@ -1,13 +1,12 @@
 -- `run_fault` tests a level entry by entry. The loop's invariant: the first wrong entry that comes from the spots on is that of the whole.
 -- Assumes nothing.
-use lib.ListN.{length}
-use mathlib.Core.Path.{refl, ◌∙◌}
+use Rattle.std.proofs.Common.{◌≡◌, Err, ap, refl, ◌∙◌}
 use borrow.Author.Tests.{leb-false, not-false}
 use Rattle.laws.specs.Tests.{told_no}
-use Rattle.entries.specs.Run.{entries_in}
 use Rattle.entries.specs.Levels.{tree_in}
-use Rattle.entries.specs.Spot.{upcoming, Standing, upcomings, upcomings_all, from_first, none_left}
-use Rattle.kinds.specs.Standing.{Stands, stands_begin, stands_done}
+use Rattle.entries.specs.Spot.{upcomings_all, from_first, none_left}
+use Rattle.entries.specs.Four.{Spots}
+use Rattle.kinds.specs.Standing.{stands_begin, stands_done}
 use Rattle.kinds.specs.Spots.{wrong_here, right_here, fewer_on}
 use Rattle.kinds.specs.Told.{right_told, wrong_told}
 use borrow.Author.Rules.{rules}
@@ -19,7 +18,8 @@ loop-top-init c =
     let a = c.args in
     let w = a.words.now in
     let all = from_first w a.top c.skip_to-spot.result _ c.least_pair-least.ensures c.skip_to-spot.ensures.told in
-    (rw (all, upcomings_all w a.lower _ refl) (stands_begin _ _ c.requires.lower_value), c.skip_to-spot.ensures.standing)
+    let begun : ◌≡◌ {A = Spots} c.map-spots.result (record { head = 0; first = 0; second = 0; third = 0 }) = search rules in
+    (rw (all, upcomings_all w a.lower _ begun) (stands_begin _ _ c.requires.lower_value), c.skip_to-spot.ensures.standing)
 
 pub entry_at-entry-requires : goal.entry_at-entry-requires
 entry_at-entry-requires c = record {
@@ -34,8 +34,8 @@ held_at-requires c = record {
   all_standing = c.spots_from-spots.ensures.standing;
 }
 
-pub returns-then-agree : goal.returns-then-agree
-returns-then-agree c =
+pub returns-then-entry-held_at : goal.returns-then-entry-held_at
+returns-then-entry-held_at c =
     let a = c.args in
     let w = a.words.now in
     let spot = c.loop-top.spot in
@@ -43,8 +43,8 @@ returns-then-agree c =
     let left = leb-false _ _ (told_no _ _ c.is_ended.ensures (not_from_false _ c.loop-top-test.true)) in
     let far = wrong_here w a.top a.lower spot c.loop-top.spots c.spots_from-spots.result
     e.result _ _ c.loop-top.invariant.0 e.ensures.told c.spots_from-spots.ensures.told
-    _ _ c.held_at.ensures c.agree.ensures c.if-agree.true in
-    c.wrong_at.ensures ∙ wrong_told w a.level a.top (tree_in w a.lower) spot _ _ c.loop-top.invariant.1 left e.ensures.told far
+    _ _ c.held_at.ensures refl c.if-entry-held_at.true in
+    ap Err c.wrong_at.ensures ∙ wrong_told w a.level a.top (tree_in w a.lower) spot _ _ c.loop-top.invariant.1 left e.ensures.told far
 
 pub loop-top-smaller : goal.loop-top-smaller
 loop-top-smaller c =
@@ -60,7 +60,7 @@ loop-top-preserved c =
     let e = c.entry_at-entry in (
       right_here a.words.now a.top a.lower c.loop-top.spot c.loop-top.spots c.spots_from-spots.result
           e.result _ _ c.loop-top.invariant.0 e.ensures.told c.spots_from-spots.ensures.told
-          c.skip_to-spot-in-loop-top.result _ c.least_pair-least.ensures c.skip_to-spot-in-loop-top.ensures.told _ _ c.held_at.ensures c.agree.ensures c.if-agree.false,
+          c.skip_to-spot-in-loop-top.result _ c.least_pair-least.ensures c.skip_to-spot-in-loop-top.ensures.told _ _ c.held_at.ensures refl c.if-entry-held_at.false,
       c.skip_to-spot-in-loop-top.ensures.standing,
     )
 

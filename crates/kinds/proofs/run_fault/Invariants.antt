@@ -1,17 +1,10 @@
 -- `run_fault` tests a level entry by entry. The loop's invariant: the first wrong entry that comes from the spots on is that of the whole.
 -- Assumes nothing.
 use lib.ListN.{length}
-use mathlib.Core.Path.{refl, ◌∙◌}
-use borrow.Author.Tests.{leb-false, not-false}
-use Rattle.laws.specs.Tests.{told_no}
 use Rattle.entries.specs.Run.{entries_in}
 use Rattle.entries.specs.Levels.{tree_in}
-use Rattle.entries.specs.Spot.{upcoming, Standing, upcomings, upcomings_all, from_first, none_left}
-use Rattle.kinds.specs.Standing.{Stands, stands_begin, stands_done}
-use Rattle.kinds.specs.Spots.{wrong_here, right_here, fewer_on}
-use Rattle.kinds.specs.Told.{right_told, wrong_told}
-use borrow.Author.Rules.{rules}
-use Rattle.std.proofs.lemmas.Bool.{not_from_false, not_from_true}
+use Rattle.entries.specs.Spot.{upcoming, Standing, upcomings}
+use Rattle.kinds.specs.Standing.{Stands}
 use Rattle.kinds.proofs.run_fault.Given as goal
 
 abbrev pub invariant-loop-top : goal.invariant-loop-top

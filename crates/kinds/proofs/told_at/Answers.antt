@@ -4,7 +4,6 @@ use borrow.Author.Tests.{leb-false}
 use Rattle.laws.specs.Tests.{told_yes}
 use Rattle.entries.specs.Spot.{none_left}
 use Rattle.kinds.specs.Spots.{told_none, told_same, told_other}
-use borrow.Author.Rules.{rules}
 use Rattle.kinds.proofs.told_at.Goals as goal
 
 pub returns-then-is_ended : goal.returns-then-is_ended

@@ -1,7 +1,6 @@
 -- `top_fault` tells of the top level: nothing where it stands right by itself, else what `run_fault` ensures. Assumes nothing.
 use Rattle.kinds.specs.Below.{below_inside, top_ascends}
 use Rattle.kinds.specs.Told.{top_fault, right_told}
-use borrow.Author.Rules.{rules}
 use Rattle.laws.specs.Clauses.{two_clauses, three_clauses}
 use Rattle.kinds.proofs.top_fault.Goals as goal
 

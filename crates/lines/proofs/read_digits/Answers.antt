@@ -1,50 +1,42 @@
 -- `read_digits` reads digit by digit: the number so far and the bytes left tell the number. Assumes nothing.
-use Prim.Native.Nat.{◌-◌}
-use lib.ListN.{length}
-use Rattle.laws.specs.Tests.{told_no, told_past}
-use Rattle.lines.specs.Number.{digit_within}
-use Rattle.lines.specs.Counting.{Counting, count_begins, count_ends, count_stops, count_overflows, count_goes_on}
-use borrow.Author.Rules.{rules}
-use native.Mathlib.Omega.{arith}
+use Rattle.std.proofs.Common.{◌+◌, ◌*◌, ◌≡◌, refl, arith}
 use Rattle.std.proofs.lemmas.Bool.{not_from_false, not_from_true}
+use Rattle.laws.specs.Tests.{told_no, told_past}
+use Rattle.lines.specs.Number.{is_digit}
+use Rattle.lines.specs.Counting.{count_ends, count_stops, count_overflows, count_goes_on}
 use Rattle.lines.proofs.read_digits.Goals as goal
 
-pub loop-j-init : goal.loop-j-init
-loop-j-init c =
-    count_begins c.args.bytes.now
+pub returns-then-not-is_ascii_digit : goal.returns-then-not-is_ascii_digit
+unfolding is_digit
+returns-then-not-is_ascii_digit c =
+    count_stops c.args.bytes.now c.loop-byte.byte-index c.loop-byte.n c.loop-byte.invariant (omega arith) (told_no _ _ c.is_ascii_digit.ensures.value (not_from_false _ c.if-not-is_ascii_digit.true))
 
-pub returns-then-not-is_digit : goal.returns-then-not-is_digit
-returns-then-not-is_digit c =
-    count_stops c.args.bytes.now c.loop-j.j c.loop-j.n c.loop-j.invariant (omega arith) (told_no _ _ c.is_digit.ensures (not_from_false _ c.if-not-is_digit.true))
+pub returns-in_err-checked_mul : goal.returns-in_err-checked_mul
+unfolding is_digit
+returns-in_err-checked_mul c =
+    let l = c.loop-byte in
+    let digit = told_past _ _ c.is_ascii_digit.ensures.value (not_from_true _ c.if-not-is_ascii_digit.false) in
+    let much = rw c.in_err-checked_mul.was at c.checked_mul.ensures in
+    rw c.from_residual.ensures (count_overflows c.args.bytes.now l.byte-index l.n l.invariant (omega arith) digit _ refl (omega arith))
 
-pub overflow_mul-n : goal.overflow_mul-n
-overflow_mul-n c =
-    omega (arith, c.loop-j.invariant.word)
+pub returns-in_err-n : goal.returns-in_err-n
+unfolding is_digit
+returns-in_err-n c =
+    let l = c.loop-byte in
+    let digit = told_past _ _ c.is_ascii_digit.ensures.value (not_from_true _ c.if-not-is_ascii_digit.false) in
+    let tens = rw c.in_ok-checked_mul.was at c.checked_mul.ensures in
+    let much = rw c.in_err-n.was at c.checked_add.ensures in
+    rw c.from_residual-in_err-n.ensures (count_overflows c.args.bytes.now l.byte-index l.n l.invariant (omega arith) digit c.from.result c.from.ensures (omega arith))
 
-pub overflow_sub-byte : goal.overflow_sub-byte
-overflow_sub-byte c =
-    omega (arith, (digit_within _ (told_past _ _ c.is_digit.ensures (not_from_true _ c.if-not-is_digit.false))).0)
-
-pub overflow_add-n : goal.overflow_add-n
-overflow_add-n c =
-    omega (arith, c.loop-j.invariant.word, c.wide.ensures, c.shared_slice_known-1.given c.loop-j.j)
-
-pub returns-then-n-gt4294967295 : goal.returns-then-n-gt4294967295
-returns-then-n-gt4294967295 c =
-    let l = c.loop-j in
-    let digit = told_past _ _ c.is_digit.ensures (not_from_true _ c.if-not-is_digit.false) in
-    count_overflows c.args.bytes.now l.j l.n l.invariant (omega arith) digit _ c.wide.ensures c.if-n-gt4294967295.true
-
-pub loop-j-preserved : goal.loop-j-preserved
-loop-j-preserved c =
-    let l = c.loop-j in
-    let digit = told_past _ _ c.is_digit.ensures (not_from_true _ c.if-not-is_digit.false) in
-    count_goes_on c.args.bytes.now l.j l.n l.invariant (omega arith) digit _ c.wide.ensures (omega arith)
-
-pub overflow_cast-result : goal.overflow_cast-result
-overflow_cast-result c =
-    omega (arith, c.loop-j.invariant.word)
+pub loop-byte-preserved : goal.loop-byte-preserved
+unfolding is_digit
+loop-byte-preserved c =
+    let l = c.loop-byte in
+    let digit = told_past _ _ c.is_ascii_digit.ensures.value (not_from_true _ c.if-not-is_ascii_digit.false) in
+    let tens = rw c.in_ok-checked_mul.was at c.checked_mul.ensures in
+    let sum = rw c.in_ok-n.was at c.checked_add.ensures in
+    let whole : c.in_ok-n.n ≡ 10 * l.n + c.from.result = omega arith in
+    rw whole (count_goes_on c.args.bytes.now l.byte-index l.n l.invariant (omega arith) digit c.from.result c.from.ensures (omega arith))
 
 pub returns : goal.returns
-returns c =
-    count_ends c.args.bytes.now c.loop-j.j c.loop-j.n c.loop-j.invariant (omega arith)
+returns c = count_ends c.args.bytes.now c.loop-byte.byte-index c.loop-byte.n c.loop-byte.invariant (omega arith)

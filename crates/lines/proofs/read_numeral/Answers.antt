@@ -1,21 +1,23 @@
--- `read_numeral` tells the number that bytes are: none, a zero alone, one behind a zero, or any other by its digits. Assumes nothing.
-use Rattle.lines.specs.Number.{numeral_none, numeral_zero, numeral_padded, numeral_digits}
-use native.Mathlib.Omega.{arith}
-use borrow.Author.Rules.{rules}
+-- `read_numeral` tells the number that bytes are: none, one behind a zero, or any other by its digits. Assumes nothing.
+use Rattle.std.proofs.Common.{arith, tests, length, slice_index_or, ◌≡◌, ◌<◌}
+use Rattle.lines.specs.Number.{numeral_none, numeral_one, numeral_padded, numeral_digits}
+use Rattle.lines.proofs.read_numeral.Goals.{in_default-via-then-bytes-lt2, in_default-via-else-bytes-lt2+in_default-1}
 use Rattle.lines.proofs.read_numeral.Goals as goal
 
-pub returns-then-bytes-eq0 : goal.returns-then-bytes-eq0
-returns-then-bytes-eq0 c =
-    numeral_none c.args.bytes.now c.if-bytes-eq0.true
+pub returns-in_default : goal.returns-in_default
+returns-in_default c =
+    elim c.in_default.branch [
+      | in_default-via-then-bytes-lt2 w ↦
+          let one : length c.args.bytes.now ≡ 1 = grind (arith, tests) in
+          rw (numeral_one c.args.bytes.now one) c.read_digits.ensures
+      | in_default-via-else-bytes-lt2+in_default-1 w ↦
+          let more : 0 < length c.args.bytes.now = grind (arith, tests) in
+          let other : slice_index_or c.args.bytes.now 0 0 ≡ 48 → ⊥ = λ e. grind (arith, tests) in
+          rw (numeral_digits c.args.bytes.now more other) c.read_digits.ensures
+    ]
 
-pub returns-then-bytes-ne48 : goal.returns-then-bytes-ne48
-returns-then-bytes-ne48 c =
-    rw (numeral_digits c.args.bytes.now (omega arith) c.if-bytes-ne48.true) c.read_digits.ensures
+pub returns-in-empty : goal.returns-in-empty
+returns-in-empty c = numeral_none c.args.bytes.now (omega arith)
 
-pub returns-then-bytes-eq1 : goal.returns-then-bytes-eq1
-returns-then-bytes-eq1 c =
-    numeral_zero c.args.bytes.now c.if-bytes-eq1.true (omega arith)
-
-pub returns : goal.returns
-returns c =
-    numeral_padded c.args.bytes.now (omega arith) (omega arith)
+pub returns-in-empty-2 : goal.returns-in-empty-2
+returns-in-empty-2 c = numeral_padded c.args.bytes.now (omega arith) (omega arith)

@@ -4,7 +4,6 @@ use Rattle.entries.specs.Run.{entry}
 use Rattle.laws.specs.Tests.{told_yes}
 use mathlib.Core.Bool.{true, false}
 use mathlib.Core.Path.{refl, sym, ◌∙◌}
-use borrow.Author.Rules.{rules}
 use Rattle.listing.proofs.lesser.Goals as goal
 
 pub returns-then-comes_before : goal.returns-then-comes_before

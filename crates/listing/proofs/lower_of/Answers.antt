@@ -2,7 +2,6 @@
 use mathlib.Core.Path.{ap, sym, ◌∙◌}
 use borrow.Author.Tests.{leb-false}
 use Rattle.listing.specs.Spots.{found, lower_none, lower_alone, lower_both}
-use borrow.Author.Rules.{rules}
 use Rattle.listing.proofs.lower_of.Goals as goal
 
 pub returns-then-is_ended : goal.returns-then-is_ended
@@ -18,14 +17,14 @@ entry_at-entry-requires c =
       spot_bound = leb-false _ _ (sym c.is_ended.ensures ∙ c.if-is_ended.false);
     }
 
-pub returns-in_default : goal.returns-in_default
-returns-in_default c =
+pub returns-in-None : goal.returns-in-None
+returns-in-None c =
     let a = c.args in
     let entry_at = c.entry_at-entry in
-    lower_alone a.words.now a.run a.spot entry_at.result entry_at.ensures.told (found a.below) (ap found c.in_default.is)
+    lower_alone a.words.now a.run a.spot entry_at.result entry_at.ensures.told (found a.below) (ap found c.in-None.is)
 
-pub returns : goal.returns
-returns c =
+pub returns-in-Some : goal.returns-in-Some
+returns-in-Some c =
     let a = c.args in
     let entry_at = c.entry_at-entry in
-    lower_both a.words.now a.run a.spot entry_at.result entry_at.ensures.told (found a.below) _ _ (ap found c.in-Of.is) c.lesser.ensures
+    lower_both a.words.now a.run a.spot entry_at.result entry_at.ensures.told (found a.below) _ _ (ap found c.in-Some.is) c.lesser.ensures

@@ -3,7 +3,6 @@ use mathlib.Core.Path.{sym, ◌∙◌}
 use borrow.Author.Tests.{leb-false}
 use Rattle.laws.specs.Tests.{told_yes}
 use Rattle.listing.specs.Spots.{past_none, past_same, past_stays}
-use borrow.Author.Rules.{rules}
 use Rattle.listing.proofs.spot_past.Goals as goal
 
 pub returns-then-is_ended : goal.returns-then-is_ended

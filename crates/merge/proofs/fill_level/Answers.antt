@@ -1,25 +1,12 @@
 use Rattle.merge.specs.Source.{fill_told}
 use Prim.Native.Nat.{◌≤◌}
 use Rattle.merge.specs.Source.{slots_small}
-use mathlib.Core.Path.{refl}
+use mathlib.Core.Path.{◌≡◌, refl}
 use Rattle.geometry.specs.Places.{plan_of}
-use Rattle.geometry.specs.Lent.{lent}
-use Rattle.merge.specs.Source.{source_inside, source_ascends, whole_work, room_in_work}
+use Rattle.merge.specs.Source.{source_at, source_inside, source_ascends, whole_work, room_in_work}
 use native.Mathlib.Omega.{arith}
-use borrow.Author.Rules.{rules}
 use Rattle.laws.specs.Clauses.{two_clauses, four_clauses}
 use Rattle.merge.proofs.fill_level.Goals as goal
-
-pub plan_for-plan-requires : goal.plan_for-plan-requires
-plan_for-plan-requires c = c.requires.lent.in_range_lem
-
-pub source_over-source-requires : goal.source_over-source-requires
-source_over-source-requires c =
-    let a = c.args in
-    let pre = c.requires in record {
-      lent = lent a.g _ a.store.now pre.lent.in_range_lem c.plan_for-plan.ensures.exact pre.lent.exact;
-      le_level = pre.le_level;
-    }
 
 pub write_level-slots-requires : goal.write_level-slots-requires
 write_level-slots-requires c =
@@ -29,10 +16,11 @@ write_level-slots-requires c =
     let w = a.store.now in
     let i = a.level in
     let l = pre.lent in
+    let source : c.source_over-source.result ≡ source_at a.g a.store.now a.level a.upper a.lower = rw (c.new.ensures.laid_out, c.new.ensures.same) at c.source_over-source.ensures in
     let j = pre.joinable in
     let fits = pre.fillable in
     let h : i ≤ 3 = omega (arith, pre.le_level.1, l.in_range_lem.levels_most) in
-    four_clauses (λ v0 v1 v2 v3. record { source_inside = v0; source_ascends = v1; whole_pages = v2; source_len_bound = v3 }) (rw c.source_over-source.ensures (
+    four_clauses (λ v0 v1 v2 v3. record { source_inside = v0; source_ascends = v1; whole_pages = v2; source_len_bound = v3 }) (rw source (
       source_inside g w i a.upper a.lower (plan_of a.g) l fits.within j pre.le_level.1,
       (
         source_ascends g w i a.upper a.lower j,
@@ -43,34 +31,25 @@ write_level-slots-requires c =
       ),
     ))
 
-pub pages_for-requires : goal.pages_for-requires
-pages_for-requires c =
+pub pages_for-pages-requires : goal.pages_for-pages-requires
+pages_for-pages-requires c =
     let a = c.args in
     let pre = c.requires in
-    let write-level = c.write_level-slots in
+    let wrote = c.write_level-slots in
+    let source : c.source_over-source.result ≡ source_at a.g a.store.now a.level a.upper a.lower = rw (c.new.ensures.laid_out, c.new.ensures.same) at c.source_over-source.ensures in
     let g = a.g in
     let l = pre.lent in
     let h : a.level ≤ 3 = omega (arith, pre.le_level.1, l.in_range_lem.levels_most) in
-    let n = slots_small g a.store.now a.work.now a.level write-level.result a.upper a.lower l.in_range_lem pre.work_len pre.le_level.0 h pre.fillable (rw (← c.source_over-source.ensures) write-level.ensures.count) in
+    let n = slots_small g a.store.now a.work.now a.level wrote.result a.upper a.lower l.in_range_lem pre.work_len pre.le_level.0 h pre.fillable (rw (← source) wrote.ensures.count) in
     omega (arith, n, (whole_work g l.in_range_lem a.work.now pre.work_len).few)
-
-pub put_level-requires : goal.put_level-requires
-put_level-requires c =
-    let a = c.args in
-    let pre = c.requires in
-    let planned = c.plan_for-plan.ensures.exact in record {
-      lent = lent a.g _ a.store.now pre.lent.in_range_lem planned pre.lent.exact;
-      work_len = omega (arith, pre.work_len);
-      le_level = pre.le_level;
-    }
 
 pub returns : goal.returns
 returns c =
     let a = c.args in
     let pre = c.requires in
     let wrote = c.write_level-slots.ensures in
-    let put = c.put_level.ensures in
+    let source : c.source_over-source.result ≡ source_at a.g a.store.now a.level a.upper a.lower = rw (c.new.ensures.laid_out, c.new.ensures.same) at c.source_over-source.ensures in
     let h : a.level ≤ 3 = omega (arith, pre.le_level.1, pre.lent.in_range_lem.levels_most) in
     let room = room_in_work a.g pre.lent.in_range_lem a.work.now pre.work_len a.level pre.le_level.0 h in
-    let source = c.source_over-source.ensures in
-    two_clauses (λ v0 v1. record { words = v0; pages = v1 }) (fill_told a.g a.store.now a.level _ a.upper a.lower room source wrote.area wrote.count c.pages_for.ensures put.words put.pages)
+    two_clauses (λ v0 v1. record { words = v0; pages = v1 })
+    (fill_told a.g a.store.now a.level _ a.upper a.lower room source wrote.area wrote.count c.pages_for-pages.ensures c.put_level.ensures refl)

@@ -18,7 +18,7 @@ pub write_slot-requires : goal.write_slot-requires
 write_slot-requires c =
     let loop = c.loop-p in record {
       place_in_bounds = omega (arith, loop.invariant.long);
-      page_bound = rw c.fence_of-fence.ensures (omega (arith, fence_page (first_pair loop.store c.args.below) loop.p));
+      page_bound = rw c.fence_of-fence.ensures (simp fence_page (omega arith));
     }
 
 pub loop-p-smaller : goal.loop-p-smaller

@@ -8,6 +8,3 @@ use Rattle.merge.proofs.put_fences.Given as goal
 
 abbrev pub invariant-loop-p : goal.invariant-loop-p
 invariant-loop-p l = Fencing l.initial.store l.below l.pages l.store l.p
-
-abbrev pub decreases-loop-p : goal.decreases-loop-p
-decreases-loop-p l = l.pages - l.p

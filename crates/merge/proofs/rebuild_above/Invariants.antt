@@ -12,6 +12,3 @@ use Rattle.merge.proofs.rebuild_above.Given as goal
 
 abbrev pub invariant-loop-i : goal.invariant-loop-i
 invariant-loop-i l = Rebuilding l.g l.initial.store l.level l.store l.i l.pages × (length l.work ≡ length l.initial.work)
-
-abbrev pub decreases-loop-i : goal.decreases-loop-i
-decreases-loop-i l = l.i

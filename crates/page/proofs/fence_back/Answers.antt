@@ -4,9 +4,8 @@ use mathlib.Core.Bool.{true, false}
 use Rattle.geometry.specs.Places.{words_in_slot}
 use Rattle.slot.specs.Slot.{slot_at}
 use Rattle.rules.specs.Level.{fence_kind}
-use Prim.Native.Nat.{◌+◌, ◌*◌, ◌≤◌}
-use Rattle.page.specs.Tell.{fence_back_here, fence_back_step, past_first, fence_back}
-use borrow.Author.Rules.{rules}
+use Prim.Native.Nat.{◌+◌, ◌*◌}
+use Rattle.page.specs.Tell.{fence_back_here, fence_back_step, past_first}
 use native.Mathlib.Omega.{arith}
 use Rattle.page.proofs.fence_back.Goals as goal
 

@@ -1,13 +1,7 @@
 -- `fence_back` gives the page of the first fence met stepping back. The loop's invariant: stepping back from here meets what stepping back from the start meets. Assumes nothing.
-use mathlib.Core.Path.{◌∙◌, ◌≡◌}
-use mathlib.Core.Bool.{true, false}
-use Rattle.geometry.specs.Places.{words_in_slot}
-use Rattle.slot.specs.Slot.{slot_at}
-use Rattle.rules.specs.Level.{fence_kind}
-use Prim.Native.Nat.{◌+◌, ◌*◌, ◌≤◌}
-use Rattle.page.specs.Tell.{fence_back_here, fence_back_step, past_first, fence_back}
-use borrow.Author.Rules.{rules}
-use native.Mathlib.Omega.{arith}
+use mathlib.Core.Path.{◌≡◌}
+use Prim.Native.Nat.{◌≤◌}
+use Rattle.page.specs.Tell.{fence_back}
 use Rattle.page.proofs.fence_back.Given as goal
 
 abbrev pub invariant-loop-slot : goal.invariant-loop-slot

@@ -1,8 +1,7 @@
 -- `is_in_turn` tells whether a slot's tag is right in the head. Assumes nothing.
 use Rattle.page.specs.Tag.{in_turn}
-use borrow.Author.Rules.{rules}
 use Rattle.page.proofs.is_in_turn.Goals as goal
 
 pub returns : goal.returns
 unfolding in_turn
-returns c = rw (c.both.ensures, c.is_internal.ensures, c.page_due.ensures)
+returns c = rw (c.both.ensures, c.is_internal.ensures, c.by_kind-due.ensures)

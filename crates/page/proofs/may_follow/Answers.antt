@@ -1,6 +1,5 @@
 -- `may_follow` tells whether a rank may follow the last one. Assumes nothing.
 use Rattle.page.specs.Scan.{may_follow}
-use borrow.Author.Rules.{rules}
 use Rattle.page.proofs.may_follow.Goals as goal
 
 pub returns : goal.returns

@@ -1,6 +1,5 @@
 -- `scan_step` gives the pass with one slot more, field by field from what its calls ensure. Assumes nothing.
 use Rattle.page.specs.Scan.{stepped}
-use borrow.Author.Rules.{rules}
 use Rattle.page.proofs.scan_step.Goals as goal
 
 pub returns : goal.returns

@@ -1,9 +1,6 @@
 -- `judge_requests` goes group by group: a fault of those left is one of all. Assumes nothing.
-use Prim.Native.Nat.{◌-◌}
-use lib.ListN.{length}
-use Rattle.reading.specs.Judging.{Judging, judge_begins, judge_faulty, judge_goes_on, judge_ends}
-use borrow.Author.Rules.{rules}
-use native.Mathlib.Omega.{arith}
+use Rattle.std.proofs.Common.{◌-◌, length}
+use Rattle.reading.specs.Judging.{Judging}
 use Rattle.reading.proofs.judge_requests.Given as goal
 
 abbrev pub invariant-loop-at : goal.invariant-loop-at

@@ -1,6 +1,6 @@
--- `load` goes forward in the script: eight bytes a run.
-use Rattle.std.proofs.Common.{◌+◌, ◌*◌, ◌≡◌}
+-- `load` fills inside the store.
+use Rattle.std.proofs.Common.{◌≤◌, length}
 use Rattle.replay.proofs.load.Given as goal
 
-abbrev pub invariant-loop : goal.invariant-loop
-invariant-loop l = l.next ≡ l.at + 4 + 8 * l.counter
+abbrev pub invariant-loop-run : goal.invariant-loop-run
+invariant-loop-run l = l.words ≤ length l.store

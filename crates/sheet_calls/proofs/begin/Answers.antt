@@ -1,6 +1,5 @@
 -- `begin` formats zeros, and no call has been made. Assumes nothing.
 use Rattle.sheet_calls.specs.First.{begins}
-use borrow.Author.Rules.{rules}
 use Rattle.sheet_calls.proofs.begin.Goals as goal
 
 pub returns : goal.returns

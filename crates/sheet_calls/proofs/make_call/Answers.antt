@@ -1,5 +1,5 @@
 -- `make_call` makes the call that a request asks for: each operation by its own call. Assumes nothing.
-use mathlib.Core.Bool.{true, false}
+use mathlib.Core.Bool.{false}
 use Rattle.sheet_calls.specs.Stepping.{change_called, ask_called, put_made, drop_made, ask_made}
 use borrow.Author.Rules.{rules}
 use Rattle.sheet_calls.proofs.make_call.Goals as goal

@@ -1,12 +1,9 @@
 -- `level_lines` prints level by level: the lines so far, and then that of the next level. Assumes nothing.
-use Prim.Native.Nat.{◌-◌}
-use Rattle.sheet_lines.specs.Levels.{Levelling, levels_begin, levels_go_on, levels_end}
-use borrow.Author.Rules.{rules}
-use native.Mathlib.Omega.{arith}
+use Rattle.std.proofs.Common.{◌≡◌}
+use Rattle.sheet_lines.specs.Levels.{Levelling}
 use Rattle.sheet_lines.proofs.level_lines.Given as goal
 
 abbrev pub invariant-loop-level : goal.invariant-loop-level
-invariant-loop-level l = Levelling l.initial.out l.at l.levels l.counts l.out l.end l.level
-
-abbrev pub decreases-loop-level : goal.decreases-loop-level
-decreases-loop-level l = l.levels - l.level
+invariant-loop-level l =
+    let start = l.initial.text in
+    Levelling start.room.now start.end l.levels l.counts l.text.room.now l.text.end l.level × (l.text.room.ghost_name ≡ start.room.ghost_name)

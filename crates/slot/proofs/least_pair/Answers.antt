@@ -2,8 +2,6 @@
 -- src/lib.rt:40:1
 use Rattle.slot.specs.Pair.{least}
 use borrow.Author.Rules.{rules}
-use Rattle.slot.proofs.least_pair.Reads as reads
-use Rattle.slot.proofs.least_pair.Lts as lts
 use Rattle.slot.proofs.least_pair.Goals as goal
 
 pub returns : goal.returns

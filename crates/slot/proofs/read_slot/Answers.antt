@@ -1,6 +1,5 @@
 -- `read_slot` gives the slot whose words begin at a place, from what `kind_of` and `page_of` ensure. Assumes nothing.
 use Rattle.slot.specs.Slot.{slot_at}
-use borrow.Author.Rules.{rules}
 use Rattle.slot.proofs.read_slot.Goals as goal
 
 pub returns : goal.returns

@@ -1,51 +1,77 @@
 -- `whole_fault` finds the fault of the whole store: each way out by the first part that fails. Assumes nothing.
-use mathlib.Core.Path.{sym, ap, ◌∙◌}
-use Rattle.laws.specs.Tests.{told_no, told_past}
-use Rattle.fault.specs.declared.Judged.TheVariants.{FaultAt}
-use Rattle.form.specs.Passes.{head_formed}
+use mathlib.Core.Path.{◌≡◌, sym, ap, ◌∙◌}
+use Rattle.std.specs.Prelude.{Err}
+use Rattle.entries.specs.Ready.{writings_ready}
+use Rattle.form.specs.Passes.{head_unflawed, head_flaw}
+use Rattle.rules.specs.Faults.{writing_faults, across_fault}
+use Rattle.rules.specs.Found.{only_one, none_first, fault_first}
 use Rattle.sound.specs.Levels.{fault_directory, fault_head, fault_form, fault_deeper, head_told}
 use borrow.Author.Rules.{rules}
-use Rattle.std.proofs.lemmas.Bool.{not_from_false, not_from_true}
 use Rattle.sound.proofs.whole_fault.Goals as goal
 
 pub returns-then-not-directory_right : goal.returns-then-not-directory_right
 returns-then-not-directory_right c =
-    let a = c.args in
-    c.fault_in.ensures ∙ fault_directory a.g a.store.now (told_no _ _ c.directory_right.ensures (not_from_false _ c.if-not-directory_right.true))
+    let s = c.args.store.now in
+    rw c.of.ensures (fault_directory s.geometry s.words.now (sym c.directory_right.ensures ∙ c.if-not-directory_right.true))
 
-pub walk_survey-survey-requires : goal.walk_survey-survey-requires
-walk_survey-survey-requires c = rw (← c.requires.planned) c.requires
+pub returns-in-Some : goal.returns-in-Some
+returns-in-Some c =
+    let s = c.args.store.now in
+    let g = s.geometry in
+    let w = s.words.now in
+    let right = sym c.directory_right.ensures ∙ c.if-not-directory_right.false in
+    let scan = c.walk_survey-survey.ensures.reads in
+    ap Err (c.at.ensures ∙ head_told g w _ scan c.in-Some.is) ∙ fault_head g w right (head_flaw g w _ scan c.in-Some.is).0
 
-pub returns-then-not-head : goal.returns-then-not-head
-returns-then-not-head c =
-    let a = c.args in
-    let w = a.store.now in
-    let head = c.walk_survey-survey.ensures.reads in
-    c.fault_in-then-not-head.ensures ∙ ap FaultAt (head_told a.g w _ head) ∙
-    fault_head a.g w (told_past _ _ c.directory_right.ensures (not_from_true _ c.if-not-directory_right.false)) (told_no _ _ (head_formed a.g w _ head) c.if-not-head.true)
+pub returns-in_err-form_faults : goal.returns-in_err-form_faults
+returns-in_err-form_faults c =
+    let s = c.args.store.now in
+    let g = s.geometry in
+    let w = s.words.now in
+    let right = sym c.directory_right.ensures ∙ c.if-not-directory_right.false in
+    let head = head_unflawed g w _ c.walk_survey-survey.ensures.reads c.in_default.is in
+    let fault = c.in_err-form_faults.field-0.0 in
+    let handed : c.from_residual.result ≡ Err fault = search rules in
+    handed ∙ fault_form g w right head fault (sym c.form_faults.ensures ∙ c.in_err-form_faults.was)
 
-pub form_faults-requires : goal.form_faults-requires
-form_faults-requires c = record {
-  lent = c.requires;
-  store_value = told_past _ _ c.directory_right.ensures (not_from_true _ c.if-not-directory_right.false);
-}
+pub writing_faults-requires-clause-store_value_2 : goal.writing_faults-requires-clause-store_value_2
+writing_faults-requires-clause-store_value_2 c =
+    let s = c.args.store.now in
+    let g = s.geometry in
+    let w = s.words.now in
+    let head = head_unflawed g w _ c.walk_survey-survey.ensures.reads c.in_default.is in
+    head
 
-pub deeper_fault-requires : goal.deeper_fault-requires
-deeper_fault-requires c =
-    let a = c.args in record {
-      lent = c.requires;
-      store_value = told_past _ _ c.directory_right.ensures (not_from_true _ c.if-not-directory_right.false);
-      store_value_2 = told_past _ _ (head_formed a.g a.store.now _ c.walk_survey-survey.ensures.reads) c.if-not-head.false;
-      store_value_3 = sym c.form_faults.ensures ∙ c.in-Sound.is;
+pub returns-in_err-writing_faults : goal.returns-in_err-writing_faults
+returns-in_err-writing_faults c =
+    let s = c.args.store.now in
+    let g = s.geometry in
+    let w = s.words.now in
+    let right = sym c.directory_right.ensures ∙ c.if-not-directory_right.false in
+    let head = head_unflawed g w _ c.walk_survey-survey.ensures.reads c.in_default.is in
+    let forms = sym c.form_faults.ensures ∙ c.in_ok-form_faults.was in
+    let fault = c.in_err-writing_faults.field-0.0 in
+    let handed : c.from_residual-in_err-writing_faults.result ≡ Err fault = search rules in
+    handed ∙ sym (fault_first _ (writing_faults g w) fault (sym c.writing_faults.ensures ∙ c.in_err-writing_faults.was)) ∙ fault_deeper g w right head forms
+
+pub kinds_fault-requires : goal.kinds_fault-requires
+kinds_fault-requires c =
+    let s = c.args.store.now in
+    let g = s.geometry in
+    let w = s.words.now in
+    let right = sym c.directory_right.ensures ∙ c.if-not-directory_right.false in
+    let ready = writings_ready g w right (sym c.writing_faults.ensures ∙ c.in_ok-writing_faults.was) in record {
+      pages_within = ready.0;
+      store_value = ready.1;
     }
 
-pub returns-in-Sound : goal.returns-in-Sound
-returns-in-Sound c =
-    let a = c.args in
-    c.deeper_fault.ensures ∙
-    fault_deeper a.g a.store.now (told_past _ _ c.directory_right.ensures (not_from_true _ c.if-not-directory_right.false)) (told_past _ _ (head_formed a.g a.store.now _ c.walk_survey-survey.ensures.reads) c.if-not-head.false) (sym c.form_faults.ensures ∙ c.in-Sound.is)
-
-pub returns-in-FaultAt : goal.returns-in-FaultAt
-returns-in-FaultAt c =
-    let a = c.args in
-    fault_form a.g a.store.now (told_past _ _ c.directory_right.ensures (not_from_true _ c.if-not-directory_right.false)) (told_past _ _ (head_formed a.g a.store.now _ c.walk_survey-survey.ensures.reads) c.if-not-head.false) _ (sym c.form_faults.ensures ∙ c.in-FaultAt.is)
+pub returns : goal.returns
+returns c =
+    let s = c.args.store.now in
+    let g = s.geometry in
+    let w = s.words.now in
+    let right = sym c.directory_right.ensures ∙ c.if-not-directory_right.false in
+    let head = head_unflawed g w _ c.walk_survey-survey.ensures.reads c.in_default.is in
+    let forms = sym c.form_faults.ensures ∙ c.in_ok-form_faults.was in
+    c.kinds_fault.ensures ∙
+    sym (none_first _ (writing_faults g w) (sym c.writing_faults.ensures ∙ c.in_ok-writing_faults.was) ∙ only_one (across_fault g w)) ∙ fault_deeper g w right head forms

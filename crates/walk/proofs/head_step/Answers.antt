@@ -1,39 +1,37 @@
 -- `head_step` gives what the head tells, from what the pass over it told. Assumes nothing.
 use Rattle.fault.specs.declared.Part.TheVariants.{Head}
 use mathlib.Core.Path.{ap, ◌∙◌}
-use Rattle.laws.specs.Tests.{told_no, told_past}
 use Rattle.geometry.proofs.Lent.{head_lent}
 use Rattle.form.specs.declared.HeadRead.{HeadRead}
-use Rattle.form.specs.Passes.{head_formed}
+use Rattle.form.specs.Passes.{head_unflawed}
 use Rattle.walk.specs.Read.{head_broken, head_first, head_some, head_reach_small, head_tells, head_within}
 use native.Mathlib.Omega.{arith}
 use Rattle.walk.proofs.head_step.Goals as goal
 
-pub returns-then-not-head : goal.returns-then-not-head
-returns-then-not-head c =
-    let a = c.args in
-    let mark = head_formed a.g a.store.now a.asked c.requires.head_value in record {
-      exact = head_broken a.g a.store.now a.asked c.requires.head_value (told_no _ _ mark c.if-not-head.true);
-      within = tt;
-    }
-
 pub tell_above-requires : goal.tell_above-requires
 tell_above-requires c =
     let a = c.args in
-    let pre = c.requires in
-    let right = told_past _ _ (head_formed a.g a.store.now a.asked pre.head_value) c.if-not-head.false in record {
+    let s = a.store.now in
+    let right = head_unflawed s.geometry s.words.now a.asked c.requires c.in-None.is in record {
       le_reach = (
-        rw pre.head_value (head_some a.g a.store.now a.asked right),
-        omega (arith, ap (λ (s : HeadRead). s.reach) pre.head_value, head_reach_small a.g a.store.now a.asked right, head_lent a.g a.plan a.store.now pre.lent),
+        rw c.requires (head_some s.geometry s.words.now a.asked right),
+        omega (arith, ap (λ (h : HeadRead). h.reach) c.requires, head_reach_small s.geometry s.words.now a.asked right, head_lent s.geometry s.plan s.words.now s.lent),
       );
-      place_value = head_first a.g a.store.now a.asked right;
+      place_value = head_first s.geometry s.words.now a.asked right;
     }
 
-pub returns : goal.returns
-returns c =
+pub returns-in-Some : goal.returns-in-Some
+returns-in-Some c =
+    let s = c.args.store.now in record {
+      exact = head_broken s.geometry s.words.now c.args.asked c.requires c.in-Some.is;
+      within = tt;
+    }
+
+pub returns-in-None : goal.returns-in-None
+returns-in-None c =
     let a = c.args in
-    let pre = c.requires in
-    let right = told_past _ _ (head_formed a.g a.store.now a.asked pre.head_value) c.if-not-head.false in record {
-      exact = c.tell_above.ensures Head 0 0 ∙ rw pre.head_value (head_tells a.g a.store.now a.asked right);
-      within = rw (c.tell_above.ensures Head 0 0, pre.head_value) (head_within a.g a.store.now a.asked right);
+    let s = a.store.now in
+    let right = head_unflawed s.geometry s.words.now a.asked c.requires c.in-None.is in record {
+      exact = c.tell_above.ensures Head 0 0 ∙ rw c.requires (head_tells s.geometry s.words.now a.asked right);
+      within = rw (c.tell_above.ensures Head 0 0, c.requires) (head_within s.geometry s.words.now a.asked right);
     }

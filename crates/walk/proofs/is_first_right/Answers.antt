@@ -1,6 +1,5 @@
 -- `is_first_right` tests a slot for a fence not above a pair. Assumes nothing.
 use Rattle.form.specs.Passes.{fence_up_to}
-use borrow.Author.Rules.{rules}
 use Rattle.walk.proofs.is_first_right.Goals as goal
 
 pub returns : goal.returns

@@ -1,25 +1,11 @@
 -- `note` writes the five words of a line at the line's place, if the trail has room for them. Assumes nothing.
 use Prim.Native.Nat.{suc, ◌+◌, ◌*◌}
 use mathlib.Core.Path.{◌≡◌, refl}
-use lib.ListN.{length-set}
 use borrow.Author.Tests.{le-leb, lt-leb}
 use Rattle.trail_words.specs.Places.{line_start}
 use Rattle.walk.specs.Lines.{line_words, note_at, numbers_seen}
 use native.Mathlib.Omega.{arith}
-use borrow.Author.Rules.{rules}
 use Rattle.walk.proofs.note.Goals as goal
-
-pub bounds-trail-at-then-at-trail : goal.bounds-trail-at-then-at-trail
-bounds-trail-at-then-at-trail c = simp length-set (omega arith)
-
-pub bounds-trail-at-then-at-trail-2 : goal.bounds-trail-at-then-at-trail-2
-bounds-trail-at-then-at-trail-2 c = simp length-set (omega arith)
-
-pub bounds-trail-at-then-at-trail-3 : goal.bounds-trail-at-then-at-trail-3
-bounds-trail-at-then-at-trail-3 c = simp length-set (omega arith)
-
-pub bounds-trail-at-then-at-trail-4 : goal.bounds-trail-at-then-at-trail-4
-bounds-trail-at-then-at-trail-4 c = simp length-set (omega arith)
 
 pub returns-then-at-trail : goal.returns-then-at-trail
 unfolding note_at line_start line_words
@@ -31,7 +17,8 @@ returns-then-at-trail c =
     let three : 2 + 5 * level + 3 ≡ suc (suc (suc (2 + 5 * level))) = omega arith in
     let four : 2 + 5 * level + 4 ≡ suc (suc (suc (suc (2 + 5 * level)))) = omega arith in
     λ part.
-    rw (le-leb _ _ c.if-at-trail.true, zero, one, two, three, four, c.follow_number.ensures, c.entry_number.ensures, (numbers_seen part level c.args.page.0 c.args.look.step).0, (numbers_seen part level c.args.page.0 c.args.look.step).1) refl
+    let numbers = numbers_seen part level c.args.page.0 c.args.look.step in
+    rw (le-leb _ _ c.if-at-trail.true, zero, one, two, three, four, c.follow_number.ensures, c.entry_number.ensures, numbers.0, numbers.1) refl
 
 pub returns-else-at-trail : goal.returns-else-at-trail
 unfolding note_at line_start

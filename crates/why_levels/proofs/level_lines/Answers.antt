@@ -1,24 +1,16 @@
--- `level_lines` prints level by level: the lines so far, and then that of the next level. Assumes nothing.
-use Prim.Native.Nat.{◌-◌}
-use Rattle.trail_words.specs.Places.{trail_levels}
-use Rattle.why_levels.specs.Levels.{Levelling, levels_begin, levels_go_on, levels_end}
-use borrow.Author.Rules.{rules}
-use native.Mathlib.Omega.{arith}
+-- `level_lines` puts level by level: the lines so far, and then that of the next level. Assumes nothing.
+use Rattle.std.proofs.Common.{arith}
+use Rattle.why_levels.specs.Levels.{levels_begin, levels_go_on}
 use Rattle.why_levels.proofs.level_lines.Goals as goal
 
 pub loop-level-init : goal.loop-level-init
-loop-level-init c =
-    levels_begin c.args.out.now c.args.trail.now
+loop-level-init c = levels_begin c.args.text.now c.args.trail.now
+
+pub level_line-requires-clause-room : goal.level_line-requires-clause-room
+level_line-requires-clause-room c = omega (arith, c.loop-level.invariant.short, c.loop-level.invariant.grown.kept)
 
 pub loop-level-preserved : goal.loop-level-preserved
 loop-level-preserved c =
     let l = c.loop-level in
-    let told = c.level_line-end.ensures in
-    levels_go_on c.args.out.now c.args.trail.now l.out l.end l.level l.invariant (omega arith) _ _ told.printed told.upper_bound (search rules)
-
-pub returns : goal.returns
-returns c =
-    let l = c.loop-level in record {
-      printed = levels_end c.args.out.now c.args.trail.now l.out l.end l.level l.invariant (omega arith);
-      upper_bound = omega (arith, l.invariant.short, l.invariant.not_past);
-    }
+    let told = c.level_line.ensures in
+    levels_go_on c.args.text.now c.args.trail.now _ l.level l.invariant (omega arith) _ told.grown told.upper_bound

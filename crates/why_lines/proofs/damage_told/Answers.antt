@@ -1,45 +1,32 @@
--- `damage_told` puts what is damaged, by the number of the reply. Assumes nothing.
-use Rattle.printing.specs.Printed.{printed_as}
+-- `damage_told` puts what is damaged, by the part. Assumes nothing.
+use Rattle.std.proofs.Common.{◌≡◌, ap, arith, rules}
+use Rattle.fault.specs.Numbers.{number_of}
+use Rattle.printing.specs.Grown.{grown_as}
 use Rattle.why_lines.specs.Parts.{damage_directory, damage_head, damage_page, damage_writing, damage_across}
-use native.Mathlib.Omega.{arith}
-use borrow.Author.Rules.{rules}
 use Rattle.why_lines.proofs.damage_told.Goals as goal
 
-pub returns-in-10 : goal.returns-in-10
-returns-in-10 c =
-    let a = c.args in
-    let told = c.print_bytes.ensures in record {
-      printed = printed_as (damage_directory a.level a.page a.slot a.number c.in-10.is) told;
-      upper_bound = omega (arith, told.ends);
-    }
+pub returns-in-Directory-clause-grown : goal.returns-in-Directory-clause-grown
+returns-in-Directory-clause-grown c =
+    let f = c.args.fault in
+    grown_as (damage_directory f.level f.page f.slot (number_of f.part) (ap number_of c.in-Directory.is)) c.bytes.ensures
 
-pub returns-in-11 : goal.returns-in-11
-returns-in-11 c =
-    let a = c.args in
-    let told = c.print_named.ensures in record {
-      printed = printed_as (damage_head a.level a.page a.slot a.number c.in-11.is) told.printed;
-      upper_bound = omega (arith, told.upper_bound);
-    }
+pub returns-in-Head-clause-grown : goal.returns-in-Head-clause-grown
+returns-in-Head-clause-grown c =
+    let f = c.args.fault in
+    grown_as (damage_head f.level f.page f.slot (number_of f.part) (ap number_of c.in-Head.is)) c.named.ensures.grown
 
-pub returns-in-12 : goal.returns-in-12
-returns-in-12 c =
-    let a = c.args in record {
-      printed = printed_as (damage_page a.level a.page a.slot a.number c.in-12.is) (search rules);
-      upper_bound = omega arith;
-    }
+pub returns-in-Page-clause-grown : goal.returns-in-Page-clause-grown
+returns-in-Page-clause-grown c =
+    let f = c.args.fault in
+    grown_as (damage_page f.level f.page f.slot (number_of f.part) (ap number_of c.in-Page.is)) (search rules)
 
-pub returns-in-13 : goal.returns-in-13
-returns-in-13 c =
-    let a = c.args in record {
-      printed = printed_as (damage_writing a.level a.page a.slot a.number c.in-13.is) (search rules);
-      upper_bound = omega arith;
-    }
+pub returns-in-Writing-clause-grown : goal.returns-in-Writing-clause-grown
+returns-in-Writing-clause-grown c =
+    let f = c.args.fault in
+    grown_as (damage_writing f.level f.page f.slot (number_of f.part) (ap number_of c.in-Writing.is)) (search rules)
 
-pub returns-in_default : goal.returns-in_default
-returns-in_default c =
-    let a = c.args in
-    let told = c.across_told.ensures in
-    let text = damage_across a.level a.page a.slot a.number (omega arith) (omega arith) (omega arith) (omega arith) in record {
-      printed = printed_as text told.printed;
-      upper_bound = omega (arith, told.upper_bound);
-    }
+pub returns-in-Kinds-clause-grown : goal.returns-in-Kinds-clause-grown
+returns-in-Kinds-clause-grown c =
+    let f = c.args.fault in
+    let kinds : number_of f.part ≡ 14 = ap number_of c.in-Kinds.is in
+    grown_as (damage_across f.level f.page f.slot (number_of f.part) (omega arith) (omega arith) (omega arith) (omega arith)) c.across_told.ensures.grown

@@ -1,17 +1,8 @@
 -- `fault_lines` puts the number with the place, and then the sentence. Assumes nothing.
-use Rattle.printing.specs.Printed.{printed_then, printed_three}
-use Rattle.why_lines.specs.Fault.{fault_text}
-use native.Mathlib.Omega.{arith}
-use borrow.Author.Rules.{rules}
+use Rattle.printing.specs.Grown.{grown_then}
+use Rattle.why_lines.specs.Fault.{fault_told}
 use Rattle.why_lines.proofs.fault_lines.Goals as goal
 
-pub returns : goal.returns
-unfolding fault_text
-returns c =
-    let line = c.fault_line-replied.ensures in
-    let begun = c.print_bytes-begun.ensures in
-    let damage = c.damage_told-told.ensures in
-    let end = c.print_bytes.ensures in record {
-      printed = printed_then (printed_three line.printed begun damage.printed) end;
-      upper_bound = omega (arith, line.upper_bound, begun.ends, damage.upper_bound, end.ends);
-    }
+pub returns-clause-grown : goal.returns-clause-grown
+unfolding fault_told
+returns-clause-grown c = grown_then (grown_then (grown_then c.fault_line.ensures.grown c.bytes.ensures) c.damage_told.ensures.grown) c.bytes-2.ensures

@@ -1,23 +1,15 @@
 -- `sentence` tells a pair that is held, or that it is not. Assumes nothing.
-use Rattle.printing.specs.Printed.{printed_as, printed_then}
+use Rattle.std.proofs.Common.{arith}
+use Rattle.printing.specs.Grown.{grown_as, grown_then}
 use Rattle.why_lines.specs.Lines.{held_text}
 use Rattle.why_lines.specs.Parts.{sentence_held, sentence_refused}
-use native.Mathlib.Omega.{arith}
-use borrow.Author.Rules.{rules}
 use Rattle.why_lines.proofs.sentence.Goals as goal
 
-pub returns-then-trail-eq1 : goal.returns-then-trail-eq1
+pub returns-then-trail-eq1-clause-grown : goal.returns-then-trail-eq1-clause-grown
 unfolding held_text
-returns-then-trail-eq1 c =
-    let first = c.pair_told-called.ensures in
-    let second = c.stands_in.ensures in record {
-      printed = printed_as (sentence_held c.args.trail.now c.args.pair c.if-trail-eq1.true) (printed_then first.printed second.printed);
-      upper_bound = omega (arith, first.upper_bound, second.upper_bound);
-    }
+returns-then-trail-eq1-clause-grown c =
+    grown_as (sentence_held c.args.trail.now c.args.pair c.if-trail-eq1.true) (grown_then c.pair_told.ensures.grown c.stands_in.ensures.grown)
 
-pub returns : goal.returns
-returns c =
-    let told = c.refusal_told.ensures in record {
-      printed = printed_as (sentence_refused c.args.trail.now c.args.pair (omega arith) _ c.entry_at.ensures) told.printed;
-      upper_bound = told.upper_bound;
-    }
+pub returns-clause-grown : goal.returns-clause-grown
+returns-clause-grown c =
+    grown_as (sentence_refused c.args.trail.now c.args.pair (omega arith) _ c.entry_at.ensures) c.refusal_told.ensures.grown

@@ -1,16 +1,8 @@
 -- `writing_told` puts the level, the slot and the page. Assumes nothing.
-use Rattle.printing.specs.Printed.{printed_three}
+use Rattle.printing.specs.Grown.{grown_then}
 use Rattle.why_lines.specs.Fault.{writing_text}
-use native.Mathlib.Omega.{arith}
-use borrow.Author.Rules.{rules}
 use Rattle.why_lines.proofs.writing_told.Goals as goal
 
-pub returns : goal.returns
+pub returns-clause-grown : goal.returns-clause-grown
 unfolding writing_text
-returns c =
-    let levelled = c.print_named-levelled.ensures in
-    let slotted = c.print_named-slotted.ensures in
-    let paged = c.print_named.ensures in record {
-      printed = printed_three levelled.printed slotted.printed paged.printed;
-      upper_bound = omega (arith, levelled.upper_bound, slotted.upper_bound, paged.upper_bound);
-    }
+returns-clause-grown c = grown_then (grown_then c.named.ensures.grown c.named-2.ensures.grown) c.named-3.ensures.grown

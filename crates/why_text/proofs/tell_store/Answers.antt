@@ -1,16 +1,11 @@
 -- `tell_store` puts the lines of the reply of `why`. Assumes nothing.
-use mathlib.Core.Path.{◌∙◌}
-use Rattle.printing.specs.Printed.{printed_as}
+use Rattle.std.proofs.Common.{◌∙◌}
+use Rattle.printing.specs.Grown.{grown_as}
 use Rattle.why_text.specs.Telling.{reply_told}
-use borrow.Author.Rules.{rules}
 use Rattle.why_text.proofs.tell_store.Goals as goal
 
-pub returns : goal.returns
-returns c =
+pub returns-clause-grown : goal.returns-clause-grown
+returns-clause-grown c =
     let a = c.args in
-    let told = c.reply_lines.ensures in
-    let asked = c.why-asked.ensures in
-    let replies = c.ask_reply-reply.ensures ∙ asked.answers in record {
-      printed = printed_as (reply_told a.store.now a.pair _ _ _ replies asked.tells) told.printed;
-      upper_bound = told.upper_bound;
-    }
+    let replies = c.ask_reply-reply.ensures ∙ c.why-asked.ensures.answers in
+    grown_as (reply_told a.store.now a.pair _ _ _ replies c.why-asked.ensures.tells) c.reply_lines.ensures.grown

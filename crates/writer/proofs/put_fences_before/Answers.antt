@@ -17,8 +17,8 @@ loop-source-init c = ((λ e es p. refl), c.requires.fence_le_below, refl)
 pub entry_next-requires : goal.entry_next-requires
 entry_next-requires c = c.requires.source_inside.below_inside
 
-pub overflow_add-own : goal.overflow_add-own
-overflow_add-own c =
+pub overflow_add-at : goal.overflow_add-at
+overflow_add-at c =
     let loop = c.loop-source in
     let asked = c.requires in
     omega (arith, loop.invariant.1, asked.room_for.enough, asked.room_for.few)

@@ -13,7 +13,7 @@ use Rattle.writer.proofs.put_fences_before.Given as goal
 
 abbrev pub invariant-loop-source : goal.invariant-loop-source
 invariant-loop-source l =
-    SameFinish l.store l.source l.pair l.own l.initial.work l.fence l.work l.next × (l.next ≤ l.source.below) × (length l.work ≡ length l.initial.work)
+    SameFinish l.store l.source l.pair l.at.own l.initial.work l.at.fence l.work l.next × (l.next ≤ l.source.below) × (length l.work ≡ length l.initial.work)
 
 abbrev pub decreases-loop-source : goal.decreases-loop-source
 decreases-loop-source l = l.source.below - l.next

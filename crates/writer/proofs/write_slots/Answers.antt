@@ -6,7 +6,7 @@ use lib.ListN.{length}
 use Rattle.entries.specs.Spot.{upcoming}
 use Rattle.writer.specs.Joining.{from_upper, from_lower, upper_there, lower_there, upper_comes, lower_comes, upper_past, lower_past}
 use Rattle.writer.specs.Append.{level_length}
-use Rattle.writer.specs.Writing.{room_in, Going, going_begins, going_room, going_ends, going_cancels, entry_room, going_on}
+use Rattle.writer.specs.Writing.{room_in, Going, going_begins, going_room, going_ends, going_cancels, next_room, next_put}
 use borrow.Author.Rules.{rules}
 use native.Mathlib.Omega.{arith}
 use Rattle.laws.specs.Clauses.{two_clauses}
@@ -50,46 +50,8 @@ past-upper-requires c =
       spot_bound = upper_there _ _ _ _ _ turn-of.ensures (ap from_upper c.in-Upper.is);
     }
 
-pub put_fences_before-fence-requires : goal.put_fences_before-fence-requires
-put_fences_before-fence-requires c =
-    let asked = c.requires in
-    let loop = c.loop-entry in record {
-      source_inside = asked.source_inside;
-      room_for = going_room _ _ _ _ _ _ _ _ loop.invariant asked.source_len_bound asked.work_bound;
-      fence_le_below = loop.invariant.fence_most;
-    }
-
-pub put_entry-own-requires : goal.put_entry-own-requires
-put_entry-own-requires c =
-    let loop = c.loop-entry in
-    let turn-of = c.turn_of in
-    let entry_at = c.entry_at-entry in
-    let past = c.past-upper in
-    let put-fences-before = c.put_fences_before-fence in
-    let asked = c.requires in
-    let ready = loop.invariant.ready in
-    let first = upper_comes _ _ _ _ _ turn-of.ensures ready c.in-Upper.is _ _ _ entry_at.ensures.told past.ensures in
-    let fences = put-fences-before.ensures in record {
-      room_for = entry_room _ _ _ _ _ _ _ _ loop.invariant _ _ _ first _ _ fences.told asked.source_len_bound asked.work_bound (omega arith);
-      fence_bound = omega (arith, fences.most, asked.source_inside.below_few);
-    }
-
 pub loop-entry-smaller-in-Upper : goal.loop-entry-smaller-in-Upper
 loop-entry-smaller-in-Upper c = omega (arith, c.past-upper.ensures.fewer)
-
-pub loop-entry-preserved-in-Upper : goal.loop-entry-preserved-in-Upper
-loop-entry-preserved-in-Upper c =
-    let loop = c.loop-entry in
-    let turn-of = c.turn_of in
-    let entry_at = c.entry_at-entry in
-    let past = c.past-upper in
-    let put-fences-before = c.put_fences_before-fence in
-    let put-entry = c.put_entry-own in
-    let ready = loop.invariant.ready in
-    let first = upper_comes _ _ _ _ _ turn-of.ensures ready c.in-Upper.is _ _ _ entry_at.ensures.told past.ensures in
-    let still = upper_past _ _ _ _ ready _ past.ensures in
-    let fences = put-fences-before.ensures in
-    going_on _ _ _ _ _ _ _ _ loop.invariant _ _ _ first _ _ fences.told still fences.most fences.next _ _ put-entry.ensures (omega arith)
 
 pub entry_at-entry-requires-in-Lower : goal.entry_at-entry-requires-in-Lower
 entry_at-entry-requires-in-Lower c =
@@ -111,46 +73,8 @@ past-lower-requires c =
       spot_bound = lower_there _ _ _ _ _ turn-of.ensures (ap from_lower c.in-Lower.is);
     }
 
-pub put_fences_before-fence-requires-in-Lower : goal.put_fences_before-fence-requires-in-Lower
-put_fences_before-fence-requires-in-Lower c =
-    let asked = c.requires in
-    let loop = c.loop-entry in record {
-      source_inside = asked.source_inside;
-      room_for = going_room _ _ _ _ _ _ _ _ loop.invariant asked.source_len_bound asked.work_bound;
-      fence_le_below = loop.invariant.fence_most;
-    }
-
-pub put_entry-own-requires-in-Lower : goal.put_entry-own-requires-in-Lower
-put_entry-own-requires-in-Lower c =
-    let loop = c.loop-entry in
-    let turn-of = c.turn_of in
-    let entry-at2 = c.entry_at-entry-in-Lower in
-    let past2 = c.past-lower in
-    let put-fences-before2 = c.put_fences_before-fence-in-Lower in
-    let asked = c.requires in
-    let ready = loop.invariant.ready in
-    let first = lower_comes _ _ _ _ _ turn-of.ensures ready c.in-Lower.is _ _ _ entry-at2.ensures.told past2.ensures in
-    let fences = put-fences-before2.ensures in record {
-      room_for = entry_room _ _ _ _ _ _ _ _ loop.invariant _ _ _ first _ _ fences.told asked.source_len_bound asked.work_bound (omega arith);
-      fence_bound = omega (arith, fences.most, asked.source_inside.below_few);
-    }
-
 pub loop-entry-smaller-in-Lower : goal.loop-entry-smaller-in-Lower
 loop-entry-smaller-in-Lower c = omega (arith, c.past-lower.ensures.fewer)
-
-pub loop-entry-preserved-in-Lower : goal.loop-entry-preserved-in-Lower
-loop-entry-preserved-in-Lower c =
-    let loop = c.loop-entry in
-    let turn-of = c.turn_of in
-    let entry-at2 = c.entry_at-entry-in-Lower in
-    let past2 = c.past-lower in
-    let put-fences-before2 = c.put_fences_before-fence-in-Lower in
-    let put-entry2 = c.put_entry-own-in-Lower in
-    let ready = loop.invariant.ready in
-    let first = lower_comes _ _ _ _ _ turn-of.ensures ready c.in-Lower.is _ _ _ entry-at2.ensures.told past2.ensures in
-    let still = lower_past _ _ _ _ ready _ past2.ensures in
-    let fences = put-fences-before2.ensures in
-    going_on _ _ _ _ _ _ _ _ loop.invariant _ _ _ first _ _ fences.told still fences.most fences.next _ _ put-entry2.ensures (omega arith)
 
 pub past-upper-requires-in-Both : goal.past-upper-requires-in-Both
 past-upper-requires-in-Both c =
@@ -197,3 +121,39 @@ returns-in-Neither c =
     let turn-of = c.turn_of in
     let put-fences = c.put_fences in
     two_clauses (λ v0 v1. record { area = v0; count = v1 }) (going_ends _ _ _ _ _ _ _ _ loop.invariant _ turn-of.ensures c.in-Neither.is _ _ put-fences.ensures)
+
+pub put_next-at-requires : goal.put_next-at-requires
+put_next-at-requires c =
+    let asked = c.requires in
+    let going = c.loop-entry.invariant in
+    let first = upper_comes _ _ _ _ _ c.turn_of.ensures going.ready c.in-Upper.is _ _ _ c.entry_at-entry.ensures.told c.past-upper.ensures in
+    record {
+      source_inside = asked.source_inside;
+      room_for = next_room _ _ _ _ _ _ _ _ going _ _ _ first asked.source_len_bound asked.work_bound;
+      fence_le_below = going.fence_most;
+    }
+
+pub put_next-at-requires-in-Lower : goal.put_next-at-requires-in-Lower
+put_next-at-requires-in-Lower c =
+    let asked = c.requires in
+    let going = c.loop-entry.invariant in
+    let first = lower_comes _ _ _ _ _ c.turn_of.ensures going.ready c.in-Lower.is _ _ _ c.entry_at-entry-in-Lower.ensures.told c.past-lower.ensures in
+    record {
+      source_inside = asked.source_inside;
+      room_for = next_room _ _ _ _ _ _ _ _ going _ _ _ first asked.source_len_bound asked.work_bound;
+      fence_le_below = going.fence_most;
+    }
+
+pub loop-entry-preserved-in-Upper : goal.loop-entry-preserved-in-Upper
+loop-entry-preserved-in-Upper c =
+    let going = c.loop-entry.invariant in
+    let put = c.put_next-at.ensures in
+    let first = upper_comes _ _ _ _ _ c.turn_of.ensures going.ready c.in-Upper.is _ _ _ c.entry_at-entry.ensures.told c.past-upper.ensures in
+    next_put _ _ _ _ _ _ _ _ going _ _ _ first _ _ _ put.told (upper_past _ _ _ _ going.ready _ c.past-upper.ensures) put.most (omega arith)
+
+pub loop-entry-preserved-in-Lower : goal.loop-entry-preserved-in-Lower
+loop-entry-preserved-in-Lower c =
+    let going = c.loop-entry.invariant in
+    let put = c.put_next-at-in-Lower.ensures in
+    let first = lower_comes _ _ _ _ _ c.turn_of.ensures going.ready c.in-Lower.is _ _ _ c.entry_at-entry-in-Lower.ensures.told c.past-lower.ensures in
+    next_put _ _ _ _ _ _ _ _ going _ _ _ first _ _ _ put.told (lower_past _ _ _ _ going.ready _ c.past-lower.ensures) put.most (omega arith)

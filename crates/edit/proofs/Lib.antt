@@ -1,0 +1,2 @@
+-- Words that move within a slice (Moves).
+pub mod Moves

@@ -1,0 +1,2 @@
+-- What the library writes, as the specification says it.
+pub mod Written

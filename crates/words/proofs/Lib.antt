@@ -1,0 +1,2 @@
+-- What a write to a part of a slice leaves (Parts).
+mod Parts
