@@ -5,7 +5,7 @@
 ghost use Rattle.std.specs.Prelude.{◌≤◌};
 
 use geometry::{Geometry, HEAD_START, PAGE_COUNTS, PAGE_WORDS, SLOT_WORDS};
-use index::{ask_reply, edit_reply, format_reply, list_reply};
+use index::{Reply, ask_reply, edit_reply, format_reply, list_reply};
 use slot::{Kind, Pair, Pid, Rid};
 use std::io;
 
@@ -21,13 +21,6 @@ const LEVEL_1_OF_10_4_3: usize = 48;
 pub enum Op {
     Put,
     Drop,
-}
-
-// An edit's reply: its number and values.
-#[derive(Clone, Copy)]
-pub struct Edited {
-    pub number: u32,
-    pub values: [u32; 7],
 }
 
 fn main(rt: HostRuntime) -> io::Result<()> {
@@ -187,43 +180,40 @@ fn edit_all(
 ) -> io::Result<()> {
     let mut pages: u32 = 0;
     for badge in first..last {
-        pages = pages.wrapping_add(edit(store, work, op, badge, floor).pages());
+        pages = pages.wrapping_add(pages_of(edit(store, work, op, badge, floor)));
     }
-    let edited = edit(store, work, op, last, floor);
-    pages = pages.wrapping_add(edited.pages());
+    let reply = edit(store, work, op, last, floor);
+    pages = pages.wrapping_add(pages_of(reply));
     let name = match op {
         Op::Put => "put",
         Op::Drop => "drop",
     };
     print!(rt; "{name} {first} to {last} at {floor} wrote {pages}")?;
-    edit_line(rt, edited)
+    edit_line(rt, reply)
 }
 
-fn edit(store: &mut [u32], work: &mut [u32], op: Op, badge: u32, floor: u32) -> Edited {
+fn edit(store: &mut [u32], work: &mut [u32], op: Op, badge: u32, floor: u32) -> Reply<7> {
     let pair = pair(badge, floor);
     let changed = match op {
         Op::Put => index::put(store, work, pair),
         Op::Drop => index::drop(store, work, pair),
     };
-    let reply = edit_reply(changed);
-    let values = reply.values;
-    Edited {
-        number: reply.number,
-        values,
+    edit_reply(changed)
+}
+
+// The pages that an edit has written, which are the third value. A refusal has written none.
+fn pages_of(reply: Reply<7>) -> u32 {
+    if reply.number == 0 {
+        reply.values[2]
+    } else {
+        0
     }
 }
 
-impl Edited {
-    // The pages written, which are the third value. A refusal has written none.
-    fn pages(self) -> u32 {
-        if self.number == 0 { self.values[2] } else { 0 }
-    }
-}
-
-fn edit_line(rt: &impl Print, edited: Edited) -> io::Result<()> {
-    let [live, deepest, pages, head, one, two, three] = edited.values;
-    if edited.number != 0 {
-        return refusal_line(rt, edited.number, live, deepest, pages);
+fn edit_line(rt: &impl Print, reply: Reply<7>) -> io::Result<()> {
+    let [live, deepest, pages, head, one, two, three] = reply.values;
+    if reply.number != 0 {
+        return refusal_line(rt, reply.number, live, deepest, pages);
     }
     print!(rt; ": reply 0 live {live} deepest {deepest} pages {pages}")?;
     println!(rt; " entries {head} {one} {two} {three}")
@@ -299,10 +289,7 @@ fn slot_line(rt: &impl Print, name: &str, store: &[u32], place: usize) -> io::Re
 
 // The word at a place, 0 past the end.
 fn word_at(store: &[u32], place: usize) -> u32 {
-    if store.len() <= place {
-        return 0;
-    }
-    store[place]
+    store.get(place).copied().unwrap_or(0)
 }
 
 fn pair(badge: u32, floor: u32) -> Pair {

@@ -2,6 +2,7 @@
 ghost use Rattle.std.specs.Prelude.{◌≤◌, ◌≡◌, length};
 
 use crate::lines::{end_line, print_changes, print_reply, print_words};
+use crate::op::Edit;
 use geometry::Geometry;
 use index::{ask_reply, check_reply, edit_reply, format_reply, list_reply};
 use slot::Pair;
@@ -60,28 +61,27 @@ fn list_into(
 pub fn edit_line(
     rt: &impl Print,
     store: &mut [u32],
-    put: bool,
+    edit: Edit,
     pair: Pair,
     words: u32,
 ) -> io::Result<()> {
     let mut room = numbered(0);
     let n = MOST_WORDS.min(words as usize);
-    edit_with(rt, store, &mut room[..n], put, pair)
+    edit_with(rt, store, &mut room[..n], edit, pair)
 }
 
 fn edit_with(
     rt: &impl Print,
     store: &mut [u32],
     work: &mut [u32],
-    put: bool,
+    edit: Edit,
     pair: Pair,
 ) -> io::Result<()> {
     let before = copied(store);
     let fresh = copied(work);
-    let changed = if put {
-        index::put(store, work, pair)
-    } else {
-        index::drop(store, work, pair)
+    let changed = match edit {
+        Edit::Put => index::put(store, work, pair),
+        Edit::Drop => index::drop(store, work, pair),
     };
     let reply = edit_reply(changed);
     print_reply(rt, reply.number, &reply.values)?;
@@ -106,8 +106,8 @@ fn numbered(first: u32) -> [u32; MOST_WORDS]
     ensures { length result ≡ 4096 }
 {
     let mut words = [first; MOST_WORDS];
-    for i in 0..MOST_WORDS {
-        words[i] = first + i as u32;
+    for (i, word) in words.iter_mut().enumerate() {
+        *word = first + i as u32;
     }
     words
 }

@@ -99,8 +99,7 @@ fn call(rt: &impl Print, script: &[u8], at: usize, op: Op, store: &mut [u32]) ->
             pair_at(script, at + 12),
             word_at(script, at + 20),
         ),
-        Op::Put => edit_line(rt, store, true, pair, words),
-        Op::Drop => edit_line(rt, store, false, pair, words),
+        Op::Edit(edit) => edit_line(rt, store, edit, pair, words),
         Op::Format => format_line(rt, store, geometry_at(script, at + 4)),
         Op::Why => why_line(rt, store, pair),
     }

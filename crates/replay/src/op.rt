@@ -6,10 +6,15 @@ pub enum Op {
     Ask,
     Check,
     List,
-    Put,
-    Drop,
+    Edit(Edit),
     Format,
     Why,
+}
+
+#[derive(Clone, Copy)]
+pub enum Edit {
+    Put,
+    Drop,
 }
 
 // A number that begins no call.
@@ -24,8 +29,8 @@ impl TryFrom<u32> for Op {
             2 => Ok(Op::Ask),
             3 => Ok(Op::Check),
             4 => Ok(Op::List),
-            5 => Ok(Op::Put),
-            6 => Ok(Op::Drop),
+            5 => Ok(Op::Edit(Edit::Put)),
+            6 => Ok(Op::Edit(Edit::Drop)),
             7 => Ok(Op::Format),
             8 => Ok(Op::Why),
             _ => Err(UnknownOp),
@@ -41,7 +46,7 @@ impl Op {
         match self {
             Op::Check => 4,
             Op::Ask | Op::Why => 12,
-            Op::Put | Op::Drop | Op::Format => 16,
+            Op::Edit(_) | Op::Format => 16,
             Op::List => 24,
         }
     }

@@ -1,7 +1,7 @@
 // Numbers in a script of bytes, as the programs read them that run what the second program wrote.
 #![tactic(auto)]
 
-ghost use Rattle.std.specs.Prelude.{◌+◌, ◌≤◌, ◌≡◌, length};
+ghost use Rattle.std.specs.Prelude.{◌+◌, ◌≤◌, ◌≡◌, length, min};
 ghost use Rattle.slot.specs.Pair.{pair};
 ghost use Rattle.script.specs.Word.{word_at, geometry_at};
 
@@ -16,6 +16,14 @@ pub fn word_at(script: &[u8], at: usize) -> u32
         return 0;
     }
     u32::from_le_bytes([script[at], script[at + 1], script[at + 2], script[at + 3]])
+}
+
+// Where the field that begins at `from` ends: its length stands at `at`, and it ends at the latest where the script ends.
+pub fn field_end(script: &[u8], from: usize, at: usize) -> usize
+    requires { from ≤ length script.now }
+    ensures { result ≡ min (from + word_at script.now at) (length script.now) }
+{
+    (from + word_at(script, at) as usize).min(script.len())
 }
 
 // A badge and a floor.

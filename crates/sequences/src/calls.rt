@@ -4,11 +4,8 @@ ghost use Rattle.sequences.specs.Fit.{Fit, WorkFit};
 
 use crate::digests::Digest;
 use crate::{Sequence, State, number_words};
-use index::{ask_reply, check_reply, edit_reply, list_reply};
+use index::{Changed, EditRefusal, ask_reply, check_reply, edit_reply, list_reply};
 use slot::Pair;
-
-// The reply to a put into a full store.
-const FULL: u32 = 4;
 
 // Makes one call.
 pub fn call(s: Sequence, state: &mut State, store: &mut [u32], work: &mut [u32])
@@ -33,14 +30,9 @@ fn put_call(s: Sequence, state: &mut State, store: &mut [u32], work: &mut [u32],
 {
     let pair = state.draws.pair(s.most);
     let lent = work.len() - short;
-    let reply = edit_reply(index::put(store, &mut work[..lent], pair));
-    add_reply(
-        &mut state.replies,
-        reply.number,
-        &reply.values,
-        &reply.values,
-    );
-    if reply.number == FULL && state.draws.number(4) == 0 {
+    let changed = index::put(store, &mut work[..lent], pair);
+    add_edit(&mut state.replies, changed);
+    if matches!(changed.answer, Err(EditRefusal::Full)) && state.draws.number(4) == 0 {
         state.filling = false;
     }
 }
@@ -49,17 +41,17 @@ fn drop_call(s: Sequence, state: &mut State, store: &mut [u32], work: &mut [u32]
     requires { Fit s (length store.old) }
 {
     let pair = state.draws.pair(s.most);
-    let reply = edit_reply(index::drop(store, work, pair));
-    add_reply(
-        &mut state.replies,
-        reply.number,
-        &reply.values,
-        &reply.values,
-    );
+    let changed = index::drop(store, work, pair);
+    add_edit(&mut state.replies, changed);
     // Accepted, and a quarter of the most live pairs is left, or fewer.
-    if reply.number == 0 && reply.values[0] <= s.most / 4 {
+    if changed.answer.is_ok_and(|done| done.live <= s.most / 4) {
         state.filling = true;
     }
+}
+
+fn add_edit(replies: &mut Digest, changed: Changed) {
+    let reply = edit_reply(changed);
+    add_reply(replies, reply.number, &reply.values, &reply.values);
 }
 
 // Asks for a pair, and why the answer is as it is.

@@ -3,7 +3,7 @@
 // numbers, lowest byte first: H, k, l, the seed, the calls, the interval, and after how many calls the store is damaged (0 for never).
 #![tactic(auto)]
 
-ghost use Rattle.std.specs.Prelude.{◌<◌, ◌≤◌, length};
+ghost use Rattle.std.specs.Prelude.{◌≤◌, length};
 ghost use Rattle.geometry.specs.Geometry.{InRange};
 ghost use Rattle.sequences.specs.Fit.{Fit, WorkFit, Planned};
 
@@ -25,6 +25,9 @@ use std::io::Read;
 
 // The most bytes of the list that are read.
 const MOST_BYTES: u64 = 4096;
+
+// The bytes of one sequence in the list: seven numbers.
+const SEQUENCE_BYTES: usize = 28;
 
 // A sequence to make. M and the words before level 1 follow from the geometry.
 #[derive(Clone, Copy)]
@@ -56,25 +59,15 @@ fn main(rt: HostRuntime) -> io::Result<()> {
 
 // Makes each sequence of a list.
 fn make_all(rt: &impl Print, list: &[u8], store: &mut [u32], work: &mut [u32]) -> io::Result<()> {
-    let mut at = 0;
-    while at < list.len() {
-        make(rt, list, at, store, work)?;
-        at += 28;
+    for numbers in list.chunks(SEQUENCE_BYTES) {
+        make(rt, numbers, store, work)?;
     }
     Ok(())
 }
 
-// Makes the sequence at a place of the list, in the first words of the store and of the work area, where they are long enough.
-fn make(
-    rt: &impl Print,
-    list: &[u8],
-    at: usize,
-    store: &mut [u32],
-    work: &mut [u32],
-) -> io::Result<()>
-    requires { at < length list.now }
-{
-    let g = geometry_at(list, at);
+// Makes the sequence of these numbers, in the first words of the store and of the work area, where they are long enough.
+fn make(rt: &impl Print, numbers: &[u8], store: &mut [u32], work: &mut [u32]) -> io::Result<()> {
+    let g = geometry_at(numbers, 0);
     if !geometry::in_range(g) {
         return Ok(());
     }
@@ -87,13 +80,12 @@ fn make(
     if work.len() < room {
         return Ok(());
     }
-    let s = sequence_at(list, at, g, plan);
+    let s = sequence_of(numbers, g, plan);
     run(rt, s, &mut store[0..words], &mut work[0..room])
 }
 
-fn sequence_at(list: &[u8], at: usize, g: Geometry, plan: Plan) -> Sequence
-    requires at_in_bounds { at < length list.now }
-    requires in_range { InRange g }
+fn sequence_of(numbers: &[u8], g: Geometry, plan: Plan) -> Sequence
+    requires { InRange g }
     ensures { Planned g plan result }
 {
     let bottom = (g.levels - 1) as usize;
@@ -101,10 +93,10 @@ fn sequence_at(list: &[u8], at: usize, g: Geometry, plan: Plan) -> Sequence
         geometry: g,
         most: plan.capacities[bottom],
         head_words: plan.starts[1],
-        seed: word_at(list, at + 12),
-        calls: word_at(list, at + 16),
-        interval: word_at(list, at + 20),
-        damage: word_at(list, at + 24),
+        seed: word_at(numbers, 12),
+        calls: word_at(numbers, 16),
+        interval: word_at(numbers, 20),
+        damage: word_at(numbers, 24),
     }
 }
 
@@ -197,7 +189,7 @@ fn start(s: Sequence, state: &mut State, store: &mut [u32], work: &mut [u32])
 pub fn number_words(words: &mut [u32], first: u32)
     requires { (length words.old ≤ 1000000) × (first ≤ 1000000) }
 {
-    for i in 0..words.len() {
-        words[i] = first + i as u32;
+    for (i, word) in words.iter_mut().enumerate() {
+        *word = first + i as u32;
     }
 }

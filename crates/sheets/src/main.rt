@@ -2,6 +2,7 @@
 // prints its number, from 1, and its text.
 #![tactic(auto)]
 
+use script::field_end;
 use sheet_text::TEXT_ROOM;
 use std::io;
 use std::io::Read;
@@ -21,9 +22,7 @@ fn run_sheets(rt: &impl Print, sheets: &[u8], out: &mut [u8]) -> io::Result<()> 
     let mut number: usize = 0;
     while at + 4 <= sheets.len() {
         let from = at + 4;
-        let to = sheets
-            .len()
-            .min(from + script::word_at(sheets, at) as usize);
+        let to = field_end(sheets, from, at);
         number += 1;
         title_line(rt, number)?;
         run_one(rt, &sheets[from..to], out)?;

@@ -1,7 +1,7 @@
 // The tool for the service desk: tells why a badge may call a floor or not, from a chip's bytes on standard input.
 #![tactic(auto)]
 
-ghost use Rattle.std.specs.Prelude.{◌≤◌, ◌≡◌, length, vec_capacity, vec_len, IfOk};
+ghost use Rattle.std.specs.Prelude.{◌≤◌, ◌≡◌, vec_capacity, vec_len, IfOk};
 
 use std::alloc::{AllocError, Global};
 use std::env::Env;
@@ -13,21 +13,15 @@ use why_text::{Stream, tell_why};
 const CHIP_ROOM: usize = 492353;
 
 fn main(rt: HostRuntime) -> io::Result<()> {
-    let mut badge = [0u8; 16];
-    let badge_length = argument(&rt, 1, &mut badge);
-    let mut floor = [0u8; 16];
-    let floor_length = argument(&rt, 2, &mut floor);
+    let mut badge_room = [0u8; 16];
+    let badge = argument(&rt, 1, &mut badge_room);
+    let mut floor_room = [0u8; 16];
+    let floor = argument(&rt, 2, &mut floor_room);
     let mut chip = chip_room(rt.alloc())?;
     rt.stdin().take(CHIP_ROOM as u64).read_to_end(&mut chip)?;
     let mut words = word_room();
     let mut out = [0u8; 512];
-    let told = tell_why(
-        &badge[..badge_length],
-        &floor[..floor_length],
-        &chip,
-        &mut words,
-        &mut out,
-    );
+    let told = tell_why(badge, floor, &chip, &mut words, &mut out);
     let text = &out[..told.length];
     match told.stream {
         Stream::Output => rt.stdout().write_all(text),
@@ -35,14 +29,10 @@ fn main(rt: HostRuntime) -> io::Result<()> {
     }
 }
 
-// Puts an argument at the start of the buffer, and gives its length: 0 where there is none, or it is longer than the buffer.
-fn argument(rt: &impl Env, number: usize, text: &mut [u8]) -> usize
-    ensures { result ≤ length text.new }
-{
-    match rt.arg(number, text) {
-        Ok(n) => n,
-        Err(_) => 0,
-    }
+// An argument, which is put into the buffer: no bytes where there is none, or it is longer than the buffer.
+fn argument<'a>(rt: &impl Env, number: usize, room: &'a mut [u8]) -> &'a [u8] {
+    let n = rt.arg(number, room).unwrap_or(0);
+    &room[..n]
 }
 
 // Room for a chip and one byte more, with no byte in it yet.

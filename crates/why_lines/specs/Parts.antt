@@ -1,7 +1,8 @@
 -- The texts of a sentence, of a fault and of a reply by the way that the code takes to each. Assumes nothing.
 use Rattle.std.specs.Prelude.{ℕ, ◌≤◌, ◌<◌, ◌≡◌, refl, Bool, true, false, cond, eqb, List}
-use Rattle.std.proofs.Common.{◌∙◌}
+use Rattle.std.proofs.Common.{◌∙◌, arith}
 use borrow.Author.Tests.{eq-eqb, ne_eqb, lt-ltb, le-ltb}
+use Rattle.fault.specs.declared.Part.{Part}
 use Rattle.fault.specs.declared.Part.TheVariants.{Directory, Head, Page, Writing, Kinds}
 use Rattle.fault.specs.Numbers.{number_of, fault_in}
 use Rattle.slot.specs.declared.Pair.{Pair}
@@ -112,3 +113,18 @@ module _ (number : ℕ) (trail : List ℕ) (pair : Pair) where
   pub reply_fault_told : (number ≡ 0 → ⊥) → (number ≡ 1 → ⊥) → (number ≡ 5 → ⊥) →
       fault_told number (fault_in (part_told number) (fault_level_in trail) (fault_page_in trail) (fault_slot_in trail)) ≡ reply_text number trail pair
   reply_fault_told a b c = part_told_lem number (fault_level_in trail) (fault_page_in trail) (fault_slot_in trail) ∙ reply_fault a b c
+
+least_number : (part : Part) → 10 ≤ number_of part
+least_number Directory = omega arith
+least_number Head = omega arith
+least_number Page = omega arith
+least_number Writing = omega arith
+least_number Kinds = omega arith
+
+-- The fault of a part, in the first words of the trail.
+pub reply_fault_of : (part : Part) (trail : List ℕ) (pair : Pair) →
+    fault_told (number_of part) (fault_in part (fault_level_in trail) (fault_page_in trail) (fault_slot_in trail)) ≡ reply_text (number_of part) trail pair
+unfolding fault_told fault_text
+reply_fault_of part trail pair =
+    let least = least_number part in
+    reply_fault (number_of part) trail pair (λ e. omega (arith, least, e)) (λ e. omega (arith, least, e)) (λ e. omega (arith, least, e))

@@ -4,36 +4,38 @@
 ghost use Rattle.std.specs.Prelude.{◌+◌, ◌≤◌, ◌≡◌, length};
 ghost use Rattle.fault.specs.Numbers.{number_of};
 ghost use Rattle.printing.specs.Grown.{Grown};
-ghost use Rattle.why_lines.specs.Fault.{fault_told, fault_line, part_told, damage_text, page_text, writing_text, across_text, placeless, kind_text};
+ghost use Rattle.call_ask.specs.Ask.{ask_reply};
+ghost use Rattle.why_lines.specs.Fault.{fault_told, fault_line, damage_text, page_text, writing_text, across_text, placeless, kind_text};
 ghost use Rattle.why_lines.specs.Lines.{text_room, reply_text, answer_text, verdict_text, sentence_text, refusal_text, entry_of, pair_text, stands_text};
 
 use fault::{Fault, Part};
+use opening::Refusal;
 use printing::Text;
 use slot::Pair;
+use walk::Found;
 use why_levels::level_lines;
 
 // The bytes that the lines of any reply fit into.
 pub const TEXT_ROOM: usize = 512;
 
-// Puts the lines of a reply behind the text.
-pub fn reply_lines(text: &mut Text, number: u32, trail: &[u32; 22], pair: Pair)
+// Puts the lines of a reply behind the text: of what `why` came to, and the trail that it left.
+pub fn reply_lines(text: &mut Text, asked: Result<Found, Refusal>, trail: &[u32; 22], pair: Pair)
     requires { text.old.end + text_room ≤ length text.old.room.now }
-    ensures grown { Grown text.old (reply_text number trail.now pair) text.new }
+    ensures grown { Grown text.old (reply_text (ask_reply asked).number trail.now pair) text.new }
     ensures upper_bound { text.new.end ≤ text.old.end + text_room }
 {
-    match number {
-        0 => answer_lines(text, trail, pair),
-        1 => text.bytes(
+    match asked {
+        Ok(_) => answer_lines(text, trail, pair),
+        Err(Refusal::Range) => text.bytes(
             b"reply=1\nThe chip cannot be read: its first three words name no geometry.\n",
         ),
-        5 => text.bytes(
+        Err(Refusal::Length) => text.bytes(
             b"reply=5\nThe chip cannot be read: its length is not the one that its geometry asks for.\n",
         ),
-        _ => fault_lines(
+        Err(Refusal::Fault(fault)) => fault_lines(
             text,
-            number,
             Fault::at(
-                part_told(number),
+                fault.part,
                 trail[trail_words::FAULT_LEVEL],
                 trail[trail_words::FAULT_PAGE],
                 trail[trail_words::FAULT_SLOT],
@@ -42,26 +44,13 @@ pub fn reply_lines(text: &mut Text, number: u32, trail: &[u32; 22], pair: Pair)
     }
 }
 
-// What is damaged, by the number of the reply. A number that is none of 10 to 13 is told as 14.
-fn part_told(number: u32) -> Part
-    ensures { result ≡ part_told number }
-{
-    match number {
-        10 => Part::Directory,
-        11 => Part::Head,
-        12 => Part::Page,
-        13 => Part::Writing,
-        _ => Part::Kinds,
-    }
-}
-
 // The lines of a fault: the number of the reply with the place, and a sentence.
-fn fault_lines(text: &mut Text, number: u32, fault: Fault)
+fn fault_lines(text: &mut Text, fault: Fault)
     requires { text.old.end + 182 ≤ length text.old.room.now }
-    ensures grown { Grown text.old (fault_told number fault) text.new }
+    ensures grown { Grown text.old (fault_told (number_of fault.part) fault) text.new }
     ensures upper_bound { text.new.end ≤ text.old.end + 182 }
 {
-    fault_line(text, number, fault);
+    fault_line(text, fault.part.into(), fault);
     text.bytes(b"\nThe store is damaged: ");
     damage_told(text, fault);
     text.bytes(b".\n");

@@ -8,7 +8,6 @@ ghost use Rattle.printing.specs.Grown.{Grown};
 ghost use Rattle.why_lines.specs.Lines.{text_room};
 ghost use Rattle.why_text.specs.Text.{why_text, told_in, Tells};
 
-use call_ask::ask_reply;
 use call_why::why;
 use chip::fill_words;
 use printing::Text;
@@ -86,6 +85,5 @@ fn tell_store(text: &mut Text, store: &[u32], pair: Pair)
 {
     let mut trail = [0; 22];
     let asked = why(store, pair, &mut trail);
-    let reply = ask_reply(asked);
-    reply_lines(text, reply.number, &trail, pair);
+    reply_lines(text, asked, &trail, pair);
 }

@@ -3,8 +3,7 @@
 // 1, with `out` or `err` for the stream that its text is for, and then the text.
 #![tactic(auto)]
 
-ghost use Rattle.std.specs.Prelude.{◌≤◌, length};
-
+use script::field_end;
 use std::io;
 use std::io::Read;
 use why_text::{Stream, tell_why};
@@ -41,14 +40,6 @@ fn run_whys(rt: &impl Print, inputs: &[u8], words: &mut [u32], out: &mut [u8]) -
         at = to;
     }
     Ok(())
-}
-
-// Where the field that begins at `from` ends: its length stands at `at`, and it ends at the latest where the inputs end.
-fn field_end(inputs: &[u8], from: usize, at: usize) -> usize
-    requires { from ≤ length inputs.now }
-    ensures { (from ≤ result) × (result ≤ length inputs.now) }
-{
-    (from + script::word_at(inputs, at) as usize).min(inputs.len())
 }
 
 fn run_one(

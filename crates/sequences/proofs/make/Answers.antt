@@ -10,21 +10,21 @@ plan_for-plan-requires g c =
     let e : in_range c.geometry_at-g.result ≡ true = cc in
     in_range_lem _ e
 
-pub sequence_at-s-requires-clause-in_range : goal.sequence_at-s-requires-clause-in_range
-sequence_at-s-requires-clause-in_range g c =
+pub sequence_of-s-requires : goal.sequence_of-s-requires
+sequence_of-s-requires g c =
     let e : in_range c.geometry_at-g.result ≡ true = cc in
     in_range_lem _ e
 
 pub run-requires-clause-fit : goal.run-requires-clause-fit
 run-requires-clause-fit g c =
     let e : in_range c.geometry_at-g.result ≡ true = cc in
-    let parts = parts_fit _ c.plan_for-plan.result c.sequence_at-s.result c.args.store.now c.args.work.now (in_range_lem _ e)
-    c.plan_for-plan.ensures.exact c.sequence_at-s.ensures (omega arith) (omega arith) in
+    let parts = parts_fit _ c.plan_for-plan.result c.sequence_of-s.result c.args.store.now c.args.work.now (in_range_lem _ e)
+    c.plan_for-plan.ensures.exact c.sequence_of-s.ensures (omega arith) (omega arith) in
     parts.0
 
 pub run-requires-clause-work_fit : goal.run-requires-clause-work_fit
 run-requires-clause-work_fit g c =
     let e : in_range c.geometry_at-g.result ≡ true = cc in
-    let parts = parts_fit _ c.plan_for-plan.result c.sequence_at-s.result c.args.store.now c.args.work.now (in_range_lem _ e)
-    c.plan_for-plan.ensures.exact c.sequence_at-s.ensures (omega arith) (omega arith) in
+    let parts = parts_fit _ c.plan_for-plan.result c.sequence_of-s.result c.args.store.now c.args.work.now (in_range_lem _ e)
+    c.plan_for-plan.ensures.exact c.sequence_of-s.ensures (omega arith) (omega arith) in
     parts.1

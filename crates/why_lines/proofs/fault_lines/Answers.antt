@@ -5,4 +5,6 @@ use Rattle.why_lines.proofs.fault_lines.Goals as goal
 
 pub returns-clause-grown : goal.returns-clause-grown
 unfolding fault_told
-returns-clause-grown c = grown_then (grown_then (grown_then c.fault_line.ensures.grown c.bytes.ensures) c.damage_told.ensures.grown) c.bytes-2.ensures
+returns-clause-grown c =
+    let line = rw c.into.ensures at c.fault_line.ensures.grown in
+    grown_then (grown_then (grown_then line c.bytes.ensures) c.damage_told.ensures.grown) c.bytes-2.ensures
