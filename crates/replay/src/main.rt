@@ -135,11 +135,9 @@ fn load(script: &[u8], at: usize, store: &mut [u32]) -> Loaded
 }
 
 // Writes a word count times from a place on, as far as the store goes; where it stopped.
-fn fill(store: &mut [u32], from: usize, count: u32, word: u32) -> usize
-    requires { from ≤ length store.old }
-    ensures { result ≤ length store.new }
-{
-    let end = (from + count as usize).min(store.len());
-    store[from..end].fill(word);
+fn fill(store: &mut [u32], from: usize, count: u32, word: u32) -> usize {
+    let start = from.min(store.len());
+    let end = (start + count as usize).min(store.len());
+    store[start..end].fill(word);
     end
 }
