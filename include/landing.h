@@ -96,17 +96,17 @@
  * x86-64 as `.ci/library` builds the library. It is not proved. A test holds each call to its bound twice: by the machine code of the
  * library, and by what calls on painted stacks reached. Of these bytes the library takes, the return address of the call included:
  *
- *     landing_put, landing_drop                 1856     in a merge from level 0 down to level 3; without one about half of it
- *     landing_list                              1272
- *     landing_check                              920
- *     landing_ask                                488
- *     landing_why                                472
+ *     landing_put, landing_drop                 1736     in a merge from level 0 down to level 3; without one about half of it
+ *     landing_list                              1176
+ *     landing_check                              856
+ *     landing_ask                                232
+ *     landing_why                                248
  *     landing_format                             104
  *     landing_store_words, landing_work_words      8
  *
- * landing_format, landing_put and landing_drop call memset, and the last two memmove: no other function of the C library is called by this
- * build. What these take below their own return address is not in the bounds. Those of glibc take nothing; but a dynamic linker that binds
- * them at their first call, and not when the program starts, takes some 3 KiB of the stack for that.
+ * landing_format, landing_put and landing_drop call memset, the only function of the C library that this build calls. What memset takes below
+ * its own return address is not in the bounds. That of glibc takes nothing; but a dynamic linker that binds it at its first call, and not when
+ * the program starts, takes some 3 KiB of the stack for that.
  */
 #ifndef LANDING_H
 #define LANDING_H

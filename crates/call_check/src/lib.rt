@@ -28,7 +28,8 @@ pub fn list(store: &[u32], first: Pair, second: Pair, out: &mut [u32]) -> Result
 {
     let store = open_store(store)?;
     whole_fault(&store)?;
-    Ok(list_pairs(&store, first, second, out))
+    let shown = list_pairs(&store, first, second, out);
+    Ok(shown)
 }
 
 // The number of check's reply, and its values: zeros; of a fault its place.

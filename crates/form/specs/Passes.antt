@@ -1,6 +1,6 @@
--- What the clauses of src/lib.rt cite of a pass over the head and over a page, and that it has no flaw exactly if it is what the paper tests there.
+-- What the clauses of src/lib.rt cite of a pass over the head and over a page, and that its mark `formed` is what the paper tests there, beside the slot to tell.
 -- Assumes nothing.
-use Rattle.std.specs.Prelude.{ℕ, zero, suc, ◌+◌, ◌*◌, ◌≤◌, ◌<◌, min, not, ◌&&◌, ◌||◌, length, get_or, take, leb, eqb, Option, Some, None, is_none}
+use Rattle.std.specs.Prelude.{ℕ, zero, suc, ◌+◌, ◌*◌, ◌≤◌, ◌<◌, min, not, ◌&&◌, ◌||◌, length, get_or, take, leb, eqb, Result, Ok, Err, is_ok}
 use Rattle.std.proofs.Math.Numerals.{add-one}
 use Rattle.std.proofs.Common.{arith, ap, ◌∙◌, le-leb, eq-eqb, ne_eqb, eqb-true}
 use Rattle.std.proofs.Math.Path.{◌≡◌, refl, sym, fun_ext}
@@ -46,32 +46,40 @@ least_fence s = fence_kind s.kind && same least s.pair
 unfoldable pub fence_up_to : Pair → Slot → Bool
 fence_up_to asked s = fence_kind s.kind && not (before asked s.pair)
 
--- The slot to tell where a test does not pass.
-abbrev pub flaw_unless : Bool → ℕ → Option ℕ
-flaw_unless right slot = cond right None (Some slot)
+-- The slot to tell, marked by whether the tests pass; and the slot in either case.
+abbrev pub marked_slot : Bool → ℕ → Result ℕ ℕ
+marked_slot right slot = cond right (Ok slot) (Err slot)
 
-flaw_told : (b : Bool) (n : ℕ) → is_none (flaw_unless b n) ≡ b
-flaw_told true n = refl
-flaw_told false n = refl
+abbrev pub slot_told : Result ℕ ℕ → ℕ
+slot_told (Ok slot) = slot
+slot_told (Err slot) = slot
 
-no_flaw : (b : Bool) (n : ℕ) → flaw_unless b n ≡ None → b ≡ true
-no_flaw true n e = refl
-no_flaw false n e = cc
+mark_of : (b : Bool) (n : ℕ) → is_ok (marked_slot b n) ≡ b
+mark_of true n = refl
+mark_of false n = refl
 
-flaw_in : (b : Bool) (n m : ℕ) → flaw_unless b n ≡ Some m → (b ≡ false) × (m ≡ n)
+slot_of : (b : Bool) (n : ℕ) → slot_told (marked_slot b n) ≡ n
+slot_of true n = refl
+slot_of false n = refl
+
+no_flaw : (b : Bool) (n m : ℕ) → marked_slot b n ≡ Ok m → b ≡ true
+no_flaw true n m e = refl
+no_flaw false n m e = cc
+
+flaw_in : (b : Bool) (n m : ℕ) → marked_slot b n ≡ Err m → (b ≡ false) × (m ≡ n)
 flaw_in true n m e = cc
 flaw_in false n m e = (refl, cc)
 
 -- What a pass over a page and one over the head come to.
 unfoldable pub page_scanned : Geometry → List ℕ → Pair → ℕ → ℕ → PageRead
 page_scanned g w asked i p = record {
-  flaw = flaw_unless (page_formed g w i p) (page_slot g w i p);
+  formed = marked_slot (page_formed g w i p) (page_slot g w i p);
   reach = length (passing (λ s. not (before asked s.pair)) (page_slots g w i p));
 }
 
 unfoldable pub head_scanned : Geometry → List ℕ → Pair → HeadRead
 head_scanned g w asked = record {
-  flaw = flaw_unless (head_right g w) (head_slot g w);
+  formed = marked_slot (head_right g w) (head_slot g w);
   entries = length (entries_of (head_slots g w));
   reach = length (passing (λ s. not (before asked s.pair)) (head_slots g w));
 }
@@ -110,18 +118,23 @@ head_fits g plan w l = record {
   capacity = l.in_range_lem.head_least;
 }
 
-pub page_formed_lem : (g : Geometry) (w : List ℕ) (asked : Pair) (i p : ℕ) → {c : PageRead} → c ≡ page_scanned g w asked i p → is_none c.flaw ≡ page_formed g w i p
+pub page_formed_lem : (g : Geometry) (w : List ℕ) (asked : Pair) (i p : ℕ) → {c : PageRead} → c ≡ page_scanned g w asked i p → is_ok c.formed ≡ page_formed g w i p
 unfolding page_scanned
-page_formed_lem g w asked i p e = rw e (flaw_told (page_formed g w i p) (page_slot g w i p))
+page_formed_lem g w asked i p e = rw e (mark_of (page_formed g w i p) (page_slot g w i p))
+
+-- Of each page, formed or not, the slot is the one to tell.
+pub page_slot_told : (g : Geometry) (w : List ℕ) (asked : Pair) (i p : ℕ) → {c : PageRead} → c ≡ page_scanned g w asked i p → slot_told c.formed ≡ page_slot g w i p
+unfolding page_scanned
+page_slot_told g w asked i p e = rw e (slot_of (page_formed g w i p) (page_slot g w i p))
 
 -- A page without a flaw is formed; one with a flaw is not, and the slot is the one to tell.
 pub page_unflawed : (g : Geometry) (w : List ℕ) (asked : Pair) (i p : ℕ) → {c : PageRead} → c ≡ page_scanned g w asked i p →
-    c.flaw ≡ None → page_formed g w i p ≡ true
+    {slot : ℕ} → c.formed ≡ Ok slot → page_formed g w i p ≡ true
 unfolding page_scanned
-page_unflawed g w asked i p e f = no_flaw (page_formed g w i p) (page_slot g w i p) (rw e at f)
+page_unflawed g w asked i p e {slot} f = no_flaw (page_formed g w i p) (page_slot g w i p) slot (rw e at f)
 
 pub page_flaw : (g : Geometry) (w : List ℕ) (asked : Pair) (i p : ℕ) → {c : PageRead} → c ≡ page_scanned g w asked i p →
-    {slot : ℕ} → c.flaw ≡ Some slot → (page_formed g w i p ≡ false) × (slot ≡ page_slot g w i p)
+    {slot : ℕ} → c.formed ≡ Err slot → (page_formed g w i p ≡ false) × (slot ≡ page_slot g w i p)
 unfolding page_scanned
 page_flaw g w asked i p e {slot} f = flaw_in (page_formed g w i p) (page_slot g w i p) slot (rw e at f)
 
@@ -130,16 +143,22 @@ pub page_reach : (g : Geometry) (w : List ℕ) (asked : Pair) (i p : ℕ) →
 unfolding page_scanned
 page_reach g w asked i p = refl
 
-pub head_formed : (g : Geometry) (w : List ℕ) (asked : Pair) → {c : HeadRead} → c ≡ head_scanned g w asked → is_none c.flaw ≡ head_right g w
+pub head_formed : (g : Geometry) (w : List ℕ) (asked : Pair) → {c : HeadRead} → c ≡ head_scanned g w asked → is_ok c.formed ≡ head_right g w
 unfolding head_scanned
-head_formed g w asked e = rw e (flaw_told (head_right g w) (head_slot g w))
+head_formed g w asked e = rw e (mark_of (head_right g w) (head_slot g w))
+
+-- Of each head, right or not, the slot is the one to tell.
+pub head_slot_told : (g : Geometry) (w : List ℕ) (asked : Pair) → {c : HeadRead} → c ≡ head_scanned g w asked → slot_told c.formed ≡ head_slot g w
+unfolding head_scanned
+head_slot_told g w asked e = rw e (slot_of (head_right g w) (head_slot g w))
 
 -- The head without a flaw is right; with one it is not, and the slot is the one to tell.
-pub head_unflawed : (g : Geometry) (w : List ℕ) (asked : Pair) → {c : HeadRead} → c ≡ head_scanned g w asked → c.flaw ≡ None → head_right g w ≡ true
+pub head_unflawed : (g : Geometry) (w : List ℕ) (asked : Pair) → {c : HeadRead} → c ≡ head_scanned g w asked →
+    {slot : ℕ} → c.formed ≡ Ok slot → head_right g w ≡ true
 unfolding head_scanned
-head_unflawed g w asked e f = no_flaw (head_right g w) (head_slot g w) (rw e at f)
+head_unflawed g w asked e {slot} f = no_flaw (head_right g w) (head_slot g w) slot (rw e at f)
 
-pub head_flaw : (g : Geometry) (w : List ℕ) (asked : Pair) → {c : HeadRead} → c ≡ head_scanned g w asked → {slot : ℕ} → c.flaw ≡ Some slot →
+pub head_flaw : (g : Geometry) (w : List ℕ) (asked : Pair) → {c : HeadRead} → c ≡ head_scanned g w asked → {slot : ℕ} → c.formed ≡ Err slot →
     (head_right g w ≡ false) × (slot ≡ head_slot g w)
 unfolding head_scanned
 head_flaw g w asked e {slot} f = flaw_in (head_right g w) (head_slot g w) slot (rw e at f)
@@ -180,7 +199,7 @@ module _ (g : Geometry) (w : List ℕ) (asked : Pair) (i p : ℕ) where
   page_slot_lem h = rw (page_breaking asked (pages_of g w (i + 1)) (page_slots g w i p), bottom_told g i (omega arith), add-one i)
 
   pub page_told : i < g.levels → {c : PageRead} →
-      c ≡ record { flaw = flaw_unless (count_tested && page_pass.formed) (cond count_tested page_pass.breaking 0); reach = page_pass.reach } → c ≡ page_scanned g w asked i p
+      c ≡ record { formed = marked_slot (count_tested && page_pass.formed) (cond count_tested page_pass.breaking 0); reach = page_pass.reach } → c ≡ page_scanned g w asked i p
   unfolding page_scanned
   page_told h e =
       let f = page_mark h in
@@ -271,7 +290,7 @@ module _ (g : Geometry) (w : List ℕ) (asked : Pair) (some : 1 ≤ g.head) wher
           none false = refl
 
   pub head_told : {c : HeadRead} →
-      c ≡ record { flaw = flaw_unless head_tested (cond (begun && ltb head_pass.breaking (head_count g w)) head_pass.breaking 0); entries = head_pass.entries; reach = head_pass.reach } →
+      c ≡ record { formed = marked_slot head_tested (cond (begun && ltb head_pass.breaking (head_count g w)) head_pass.breaking 0); entries = head_pass.entries; reach = head_pass.reach } →
       c ≡ head_scanned g w asked
   unfolding head_scanned
   head_told e =

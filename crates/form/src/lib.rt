@@ -2,12 +2,12 @@
 // also tells how far a pair reaches in it.
 #![tactic(auto)]
 
-ghost use Rattle.std.specs.Prelude.{◌+◌, ◌<◌, ◌≤◌, ◌≡◌, cond, length, Some, None};
+ghost use Rattle.std.specs.Prelude.{◌+◌, ◌<◌, ◌≤◌, ◌≡◌, cond, length};
 ghost use Rattle.geometry.specs.Geometry.{room};
 ghost use Rattle.geometry.specs.Places.{words_in_slot, words_in_page};
 ghost use Rattle.slot.specs.Slot.{slot_at};
 ghost use Rattle.rules.specs.Sound.{directory_right, pages_right};
-ghost use Rattle.form.specs.Passes.{count_fits, least_fence, page_at, PageTold, head_at, HeadFits, HeadTold};
+ghost use Rattle.form.specs.Passes.{count_fits, least_fence, marked_slot, page_at, PageTold, head_at, HeadFits, HeadTold};
 
 use geometry::{
     FIRST_SLOT, HEAD_COUNT, HEAD_START, LIVE, MODE, OPEN_MODE, PAGE_COUNTS, PAGE_SLOTS, PAGE_WORDS,
@@ -17,19 +17,19 @@ use laws::{both, either};
 use page::{Slots, is_fence, scan_head, scan_page};
 use slot::{Pair, Pid, least_pair, read_slot, same_pair};
 
-// What a pass over a page tells of it: the slot to tell where its count, slot order or tags are not right, and how many of its slots are at
-// most the pair asked.
+// What a pass over a page tells of it: whether its count, slot order and tags are right, the slot to tell in either case (of a page that is
+// right the number of its slots), and how many of its slots are at most the pair asked.
 #[derive(Clone, Copy)]
 pub struct PageRead {
-    pub flaw: Option<u32>,
+    pub formed: Result<u32, u32>,
     pub reach: u32,
 }
 
-// What a pass over the head tells of it: the slot to tell where it is not right, its index entries, and how many of its slots are at most the
-// pair asked.
+// What a pass over the head tells of it: whether it is right, the slot to tell in either case (of a head that is right 0), its index entries,
+// and how many of its slots are at most the pair asked.
 #[derive(Clone, Copy)]
 pub struct HeadRead {
-    pub flaw: Option<u32>,
+    pub formed: Result<u32, u32>,
     pub entries: u32,
     pub reach: u32,
 }
@@ -82,6 +82,7 @@ pub fn page_at(store: &Store, level: u32, page: Pid) -> PageAt
 }
 
 // A pass over a page for a pair.
+#[inline(always)]
 pub fn page_scan(words: &[u32], at: PageAt, asked: Pair) -> PageRead
     requires { at.place + words_in_page ≤ length words.now }
     ensures { PageTold words.now at asked result }
@@ -95,7 +96,7 @@ pub fn page_scan(words: &[u32], at: PageAt, asked: Pair) -> PageRead
     let scan = scan_page(&slots, asked, at.below);
     let fits = count_right(count, at.alone);
     PageRead {
-        flaw: first_flaw(both(fits, scan.formed), fits, scan.breaking),
+        formed: marked_slot(both(fits, scan.formed), fits, scan.breaking),
         reach: scan.reach,
     }
 }
@@ -128,6 +129,7 @@ pub fn head_at(store: &Store) -> HeadAt
 }
 
 // A pass over the head for a pair.
+#[inline(always)]
 pub fn head_scan(words: &[u32], at: HeadAt, asked: Pair) -> HeadRead
     requires { HeadFits words.now at }
     ensures { HeadTold words.now at asked result }
@@ -144,17 +146,18 @@ pub fn head_scan(words: &[u32], at: HeadAt, asked: Pair) -> HeadRead
     let begun = both(count <= at.room, least);
     let right = both(both(begun, scan.formed), scan.fences == at.below);
     HeadRead {
-        flaw: first_flaw(right, both(begun, scan.breaking < read), scan.breaking),
+        formed: marked_slot(right, both(begun, scan.breaking < read), scan.breaking),
         entries: scan.entries,
         reach: scan.reach,
     }
 }
 
-// The slot to tell of a run that is not right: the one told, or slot 0.
-fn first_flaw(right: bool, told: bool, slot: u32) -> Option<u32>
-    ensures { result ≡ cond right None (Some (cond told slot 0)) }
+// The slot to tell of a run, which is right or not: the one told, or slot 0.
+fn marked_slot(right: bool, told: bool, slot: u32) -> Result<u32, u32>
+    ensures { result ≡ marked_slot right (cond told slot 0) }
 {
-    (!right).then_some(if told { slot } else { 0 })
+    let slot = if told { slot } else { 0 };
+    if right { Ok(slot) } else { Err(slot) }
 }
 
 // Whether the slot at a place is a fence with the least pair.

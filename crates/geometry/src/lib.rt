@@ -224,7 +224,7 @@ fn within(g: Geometry, level: u32, n: u32) -> u32
     if level < g.levels { n } else { 0 }
 }
 
-// The number of a level among four. The numbers are told apart by tests, so that they need no place in memory.
+// The number of a level among four. The numbers are told apart by a match, so that they need no place in memory.
 pub fn at_level(four: [u32; 4], level: u32) -> u32
     requires { level ≤ 3 }
     ensures { result ≡ get_or four level 0 }

@@ -3,7 +3,7 @@
 
 ghost use Rattle.std.specs.Prelude.{◌≤◌, ◌≡◌, length, drop};
 ghost use Rattle.lines.specs.Lines.{Endless, begins};
-ghost use Rattle.lines.specs.Number.{number_from, numeral, number_in, value};
+ghost use Rattle.lines.specs.Number.{is_digit, number_from, numeral, number_in, value};
 ghost use Rattle.lines.specs.Told.{ReadAs, LineEnds, NumeralAs};
 
 // Reads the line at a place: this name, and behind it a number below 2^32 in decimal without leading zeros. The place of the next line comes with it.
@@ -61,10 +61,16 @@ fn read_digits(bytes: &[u8]) -> Option<u32>
 {
     let mut n: u32 = 0;
     for byte in bytes {
-        if !byte.is_ascii_digit() {
+        if !is_digit(*byte) {
             return None;
         }
         n = n.checked_mul(10)?.checked_add(u32::from(*byte - b'0'))?;
     }
     Some(n)
+}
+
+fn is_digit(byte: u8) -> bool
+    ensures { result ≡ is_digit byte }
+{
+    48 <= byte && byte <= 57
 }

@@ -1,7 +1,7 @@
 -- The pages that an ask reads lie in the rooms of their levels, and so inside the store. Assumes nothing.
 use Prim.Native.Nat.{ℕ, zero, suc, ◌+◌, ◌≤◌, ◌<◌}
 use Rattle.std.proofs.Common.{arith}
-use Rattle.std.specs.Prelude.{◌≡◌, refl, Bool, true, false, cond, List, [], ◌∷◌, length, Some}
+use Rattle.std.specs.Prelude.{◌≡◌, refl, Bool, true, false, cond, List, [], ◌∷◌, length, Err}
 use Rattle.geometry.specs.declared.Geometry.{Geometry}
 use Rattle.geometry.specs.Geometry.{bottom, room}
 use Rattle.geometry.specs.Places.{page_place, store_words, words_in_page}
@@ -30,11 +30,11 @@ PagesInside g n i (p ∷ ps) = (p < room g i) × (page_place g i p + words_in_pa
 
 -- A page that a level tells to follow is one that the level below has.
 module _ (g : Geometry) (w : List ℕ) (asked : Pair) where
-  head_flawed : head_right g w ≡ false → (head_scanned g w asked).flaw ≡ Some (head_slot g w)
+  head_flawed : head_right g w ≡ false → (head_scanned g w asked).formed ≡ Err (head_slot g w)
   unfolding head_scanned
   head_flawed e = rw e
 
-  page_flawed : (i p : ℕ) → page_formed g w i p ≡ false → (page_scanned g w asked i p).flaw ≡ Some (page_slot g w i p)
+  page_flawed : (i p : ℕ) → page_formed g w i p ≡ false → (page_scanned g w asked i p).formed ≡ Err (page_slot g w i p)
   unfolding page_scanned
   page_flawed i p e = rw e
 

@@ -20,6 +20,7 @@ pub enum Unopened {
 
 // Opens a store: it has a directory, its geometry is in range, and it is exactly as long as its geometry requires.
 #[tactic(auto, using(crate::specs::Opening::too_short))]
+#[inline(always)]
 pub fn open_store(words: &[u32]) -> Result<Store, Unopened>
     ensures { Opens words.now result }
 {
@@ -44,6 +45,7 @@ pub fn open_store(words: &[u32]) -> Result<Store, Unopened>
 
 // Opens a store, and then tests that the work area is exactly as long as the geometry requires.
 #[tactic(auto, using(crate::specs::Opening::both_unopened))]
+#[inline(always)]
 pub fn open_both<'a>(words: &'a [u32], work: &[u32]) -> Result<Store<'a>, Unopened>
     ensures { OpensBoth words.now work.now result }
 {

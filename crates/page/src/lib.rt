@@ -43,6 +43,7 @@ pub struct Slots<'a> {
 }
 
 // A pass over a page, whose fences may name the first `below` pages of the level below.
+#[inline(always)]
 pub fn scan_page(slots: &Slots, asked: Pair, below: u32) -> Scan
     ensures { result ≡ scanned asked (legal_below below) started (slots_from slots.now.words.now slots.now.place slots.now.count) }
 {
@@ -50,6 +51,7 @@ pub fn scan_page(slots: &Slots, asked: Pair, below: u32) -> Scan
 }
 
 // A pass over the head, whose fences name the pages below in turn, and whose index entries are fewer than `head`.
+#[inline(always)]
 pub fn scan_head(slots: &Slots, asked: Pair, below: u32, head: u32) -> Scan
     ensures { result ≡ scanned asked (head_tag below head) started (slots_from slots.now.words.now slots.now.place slots.now.count) }
 {
@@ -61,6 +63,7 @@ pub fn scan_head(slots: &Slots, asked: Pair, below: u32, head: u32) -> Scan
 }
 
 // A pass over slots. `right` tests a slot's tag, by what the pass has found before it.
+#[inline(always)]
 fn scan_slots<F: Fn(Scan, Slot) -> bool>(slots: &Slots, asked: Pair, right: F) -> Scan
     requires { (c : Scan) (s : Slot) → Within 4096 c → F.pre right c s }
     ensures { Scanned (F.post right) slots.now.words.now slots.now.place slots.now.count asked result }
@@ -171,6 +174,7 @@ pub fn is_normal(kind: Kind) -> bool
 }
 
 // Steps back from a slot of the run at a place, and gives the page of the first fence that it meets. The first slot of the run is a fence.
+#[inline(always)]
 pub fn fence_back(words: &[u32], place: usize, from: SlotNo) -> Pid
     requires words_in_slot_in_bounds { place + words_in_slot * from.0 + words_in_slot ≤ length words.now }
     requires place_value { fence_kind (slot_at words.now place).kind ≡ true }

@@ -1,15 +1,10 @@
 // Text put into a lent buffer: bytes, a name with a number in decimal without leading zeros, and a line of these, which byte 10 ends.
 #![tactic(auto)]
 
-ghost use Rattle.std.specs.Prelude.{◌+◌, ◌≤◌, length};
+ghost use Rattle.std.specs.Prelude.{◌+◌, ◌<◌, ◌≤◌, ◌≡◌, length};
 ghost use Rattle.printing.specs.Decimal.{decimal};
 ghost use Rattle.printing.specs.Grown.{Grown};
 ghost use Rattle.printing.specs.Line.{named, line, digits_room, number_room};
-
-use itoa::write_digits;
-
-// No number of 64 bits has more digits.
-const MOST_DIGITS: usize = 20;
 
 // A lent buffer, and how far it is filled.
 #[derive(Drop)]
@@ -51,12 +46,28 @@ impl Text<'_> {
     }
 
     // Puts a number behind the text.
+    #[tactic(auto, using(crate::specs::Decimal::length_digit, crate::specs::Decimal::length_more))]
     fn number(&mut self, n: u64)
         requires { self.old.end + length (decimal n) ≤ length self.old.room.now }
         ensures { Grown self.old (decimal n) self.new }
     {
-        let mut digits = [0; MOST_DIGITS];
-        let start = write_digits(n, &mut digits, MOST_DIGITS);
-        self.bytes(&digits[start..]);
+        let first = self.end;
+        if n < 10 {
+            self.room[first] = digit(n);
+            self.end = first + 1;
+            return;
+        }
+        self.number(n / 10);
+        let last = self.end;
+        self.room[last] = digit(n % 10);
+        self.end = last + 1;
     }
+}
+
+// The ASCII code of a digit.
+fn digit(d: u64) -> u8
+    requires { d < 10 }
+    ensures { result ≡ 48 + d }
+{
+    b'0' + d as u8
 }

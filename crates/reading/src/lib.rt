@@ -23,6 +23,9 @@ const DROP: &[u8] = b"op=drop";
 
 const ASK: &[u8] = b"op=ask";
 
+// The most bytes of such a line, its byte 10 included: a line's end is sought in no more, however long the line is.
+const MOST_OPERATION: usize = 8;
+
 // What a request wants done.
 #[derive(Clone, Copy, PartialEq, Eq)]
 pub enum Operation {
@@ -120,7 +123,8 @@ fn read_operation(input: &[u8], at: usize) -> Option<(Operation, usize)>
     requires { at ≤ length input.now }
     ensures { NamedAs input.now at result }
 {
-    let end = line_end(input, at)?;
+    let near = &input[..(at + MOST_OPERATION).min(input.len())];
+    let end = line_end(near, at)?;
     let operation = operation_named(&input[at..end])?;
     Some((operation, end + 1))
 }

@@ -8,18 +8,18 @@ ghost use Rattle.slot.specs.Tag.{kind_number, kind_of, page_of, tag_of};
 ghost use Rattle.slot.specs.Slot.{slot_at, words_of};
 
 // A page number within a level, pid.
-#[derive(Clone, Copy, PartialEq, Eq, PartialOrd, Ord)]
+#[derive(Clone, Copy, PartialEq, Eq)]
 pub struct Pid(pub u32);
 
 // A floor, rid.
-#[derive(Clone, Copy, PartialEq, Eq, PartialOrd, Ord)]
+#[derive(Clone, Copy, PartialEq, Eq)]
 pub struct Rid(pub u32);
 
 // A slot's number within its page or the head.
-#[derive(Clone, Copy, PartialEq, Eq, PartialOrd, Ord)]
+#[derive(Clone, Copy, PartialEq, Eq)]
 pub struct SlotNo(pub u32);
 
-#[derive(Clone, Copy, PartialEq, Eq, PartialOrd, Ord)]
+#[derive(Clone, Copy, PartialEq, Eq)]
 pub struct Pair {
     pub badge: u32,
     pub floor: Rid,

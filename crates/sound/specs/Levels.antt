@@ -1,7 +1,7 @@
 -- The tests of one level, and tests one by one, as the clauses of src/lib.rt cite them. Assumes nothing.
 use Prim.Native.Nat.{ℕ, zero, suc, ◌+◌, ◌-◌, ◌/◌, ◌%◌, ◌≤◌, ◌<◌}
 use Rattle.std.proofs.Common.{arith, eqb-true}
-use Rattle.std.specs.Prelude.{◌≡◌, Bool, true, false, cond, List, [], ◌∷◌, get_or, ltb, leb, eqb, Some, Err, Ok}
+use Rattle.std.specs.Prelude.{◌≡◌, Bool, true, false, cond, List, [], ◌∷◌, get_or, ltb, leb, eqb, Err, Ok}
 use Rattle.std.proofs.Math.Path.{refl}
 use Rattle.laws.specs.Lists.{span, all, span_next, span_end}
 use Rattle.laws.specs.Flat.{all_span}
@@ -22,7 +22,7 @@ use Rattle.rules.specs.Faultless.{forms_sound}
 use Rattle.geometry.specs.Directory.{pages_of}
 use Rattle.form.specs.declared.HeadRead.{HeadRead}
 use Rattle.form.specs.declared.PageRead.{PageRead}
-use Rattle.form.specs.Passes.{head_scanned, page_scanned, head_flaw, page_flaw}
+use Rattle.form.specs.Passes.{head_scanned, page_scanned, slot_told, head_slot_told, page_slot_told}
 
 -- A level's capacity, read from the list of capacities.
 unfoldable pub capacity_holds : List ℕ → Geometry → ℕ → ℕ → Bool
@@ -73,13 +73,13 @@ module _ (g : Geometry) (w : List ℕ) where
       fault_deeper e = rw (right, head, e)
 
   -- The slot that a pass over the head or a page tells is the fault's.
-  pub head_told : (asked : Pair) {c : HeadRead} → c ≡ head_scanned g w asked → {slot : ℕ} → c.flaw ≡ Some slot → fault_in Head 0 0 slot ≡ head_fault g w
+  pub head_told : (asked : Pair) {c : HeadRead} → c ≡ head_scanned g w asked → fault_in Head 0 0 (slot_told c.formed) ≡ head_fault g w
   unfolding head_fault
-  head_told asked e f = rw (head_flaw g w asked e f).1
+  head_told asked e = rw (head_slot_told g w asked e)
 
-  pub page_told : (asked : Pair) (i p : ℕ) {c : PageRead} → c ≡ page_scanned g w asked i p → {slot : ℕ} → c.flaw ≡ Some slot → fault_in Page i p slot ≡ page_fault g w i p
+  pub page_told : (asked : Pair) (i p : ℕ) {c : PageRead} → c ≡ page_scanned g w asked i p → fault_in Page i p (slot_told c.formed) ≡ page_fault g w i p
   unfolding page_fault
-  page_told asked i p e f = rw (page_flaw g w asked i p e f).1
+  page_told asked i p e = rw (page_slot_told g w asked i p e)
 
   -- The test of a level's writing, and of the head's, by what the code finds.
   pub level_written_lem : (i : ℕ) → level_sound g w i ≡ true → writing_fault g w i ≡ Ok tt

@@ -32,7 +32,7 @@ pub fn whole_fault(store: &Store) -> Result<(), Fault>
         return Err(Fault::of(Part::Directory));
     }
     let survey = walk_survey(store, least_pair());
-    if let Some(slot) = survey.head.flaw {
+    if let Err(slot) = survey.head.formed {
         return Err(Fault::at(Part::Head, 0, 0, slot));
     }
     form_faults(store)?;
@@ -45,7 +45,7 @@ fn form_faults(store: &Store) -> Result<(), Fault>
     requires { directory_right store.now.geometry store.now.words.now ≡ true }
     ensures { result ≡ form_faults store.now.geometry store.now.words.now }
 {
-    for level in 1..store.geometry.levels {
+    for level in 1_u32..store.geometry.levels {
         form_fault(store, level)?;
     }
     Ok(())
@@ -61,7 +61,7 @@ fn form_fault(store: &Store, level: u32) -> Result<(), Fault>
     for p in 0..own.pages {
         let at = page_at(store, level, Pid(p));
         let scan = page_scan(store.words, at, least_pair());
-        if let Some(slot) = scan.flaw {
+        if let Err(slot) = scan.formed {
             return Err(Fault::at(Part::Page, level, p, slot));
         }
     }

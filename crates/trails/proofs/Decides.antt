@@ -27,7 +27,7 @@ module _ (g : Geometry) (w : List ℕ) (asked : Pair) (held : Bool) (level : ℕ
   abbrev FoundOn : ℕ → ℕ → Step → Type 0
   FoundOn n i s = walk_on g w asked n i s ≡ found held level
 
-  -- What is finds where a level decides is its own; where none does, it is no answer and l.
+  -- What is found where a level decides is its own; where none does, it is no answer and l.
   found_own : (b : Bool) (i : ℕ) → found b i ≡ found held level → (b ≡ held) × (i ≡ level)
   found_own b i e =
       let own : ◌≡◌ {A = Found} (record { held = b; level = i }) (record { held = held; level = level }) = cc in
@@ -44,7 +44,7 @@ module _ (g : Geometry) (w : List ℕ) (asked : Pair) (held : Bool) (level : ℕ
       let e : ◌≡◌ {A = Walked} (Err f) (found held level) = sym (walk_broken g w asked n i f) ∙ finds in
       let z : ◌≡◌ {A = ℕ} 0 1 = cc in omega arith
 
-  -- Lines from level i on, of which the last is of the level finds and decides.
+  -- Lines from level i on, of which the last is of the level found and decides.
   record EndsDeciding (i : ℕ) (lines : List Line) : Type 0 where
     earlier : ℕ
     level_is : i + earlier ≡ level
@@ -71,7 +71,7 @@ module _ (g : Geometry) (w : List ℕ) (asked : Pair) (held : Bool) (level : ℕ
   ends_deciding h (suc n) i line Nothing shown finds = absurd (omega (arith, h, (found_nothing (suc n) i finds).1))
   ends_deciding h (suc n) i line (Broken f) shown finds = absurd (not_broken (suc n) i f finds)
 
-  -- A level above the one finds told no answer, so its slots have no entry of the pair.
+  -- A level above the one found told no answer, so its slots have no entry of the pair.
   undecided_here : (n i : ℕ) (run : List Slot) (reach : ℕ) (s : Step) → Shows asked run reach s → FoundOn n i s → i < level → no_entry_of asked run ≡ true
   undecided_here n i run reach (Decided b) shown finds h = absurd (omega (arith, h, (found_here n i b finds).1))
   undecided_here n i run reach (Follow page) shown finds h = shown

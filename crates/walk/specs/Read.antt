@@ -4,7 +4,7 @@ use Prim.Native.Nat.{ℕ, zero, suc, ◌+◌, ◌-◌, ◌*◌, ◌≤◌, ◌<�
 use Rattle.std.proofs.Math.Nat.{min-le_right}
 use Rattle.std.proofs.Common.{le_trans, sym, ap, ◌∙◌}
 use native.Mathlib.Omega.{arith}
-use Rattle.std.specs.Prelude.{◌≡◌, refl, Bool, ◌&&◌, ◌||◌, List, length, get_or, ltb, leb, eqb, Some}
+use Rattle.std.specs.Prelude.{◌≡◌, refl, Bool, ◌&&◌, ◌||◌, List, length, get_or, ltb, leb, eqb, Err}
 use Rattle.std.proofs.Math.Bool.{true, false, not}
 use borrow.Author.Tests.{leb-true, eq-eqb, ne_eqb, eqb-true, not-true}
 use Rattle.laws.specs.Tests.{and_left, and_right, and_three, and_six}
@@ -27,7 +27,7 @@ use Rattle.rules.specs.Faults.{head_fault, page_fault, walk_fault}
 use Rattle.walk.specs.Stepping.{Broken}
 use Rattle.form.specs.declared.HeadRead.{HeadRead}
 use Rattle.form.specs.declared.PageRead.{PageRead}
-use Rattle.form.specs.Passes.{fence_up_to, least_fence, page_scanned, head_scanned, first_slots, head_count, head_reach, page_reach, head_flaw, page_flaw}
+use Rattle.form.specs.Passes.{fence_up_to, least_fence, page_scanned, head_scanned, first_slots, head_count, head_reach, page_reach, head_flaw, page_flaw, slot_told, head_slot_told, page_slot_told}
 use Rattle.walk.specs.Step.{head_step, page_step, StepWithin, above_step, bottom_step, above_tells, above_within, bottom_tells}
 
 -- Where the first slot is at most the pair, a pass reaches it.
@@ -62,10 +62,14 @@ module _ (g : Geometry) (w : List ℕ) (asked : Pair) where
   abbrev head_run : List Slot
   head_run = slots_from w head_start (head_count g w)
 
-  pub head_broken : {head : HeadRead} → head ≡ head_scanned g w asked → {slot : ℕ} → head.flaw ≡ Some slot →
-      Broken (fault_in Head 0 0 slot) ≡ head_step g w asked
+  pub head_wrong : {head : HeadRead} → head ≡ head_scanned g w asked → head_right g w ≡ false →
+      Broken (fault_in Head 0 0 (slot_told head.formed)) ≡ head_step g w asked
   unfolding head_step head_fault
-  head_broken told e = let flaw = head_flaw g w asked told e in rw (flaw.0, flaw.1)
+  head_wrong told e = rw (head_slot_told g w asked told, e)
+
+  pub head_broken : {head : HeadRead} → head ≡ head_scanned g w asked → {slot : ℕ} → head.formed ≡ Err slot →
+      Broken (fault_in Head 0 0 slot) ≡ head_step g w asked
+  head_broken told e = rw e at (head_wrong told (head_flaw g w asked told e).0)
 
   module _ (right : head_right g w ≡ true) where
     pub head_tests : (leb (get_or w head_count_word 0) (head_room g) ≡ true) × (ltb (length (entries_of head_run)) g.head ≡ true) × (in_order head_run ≡ true) ×
@@ -122,10 +126,14 @@ module _ (g : Geometry) (w : List ℕ) (asked : Pair) (i p : ℕ) where
   unfolding page_slots
   page_run_lem = rw (first_slot g i p)
 
-  pub page_broken : {page : PageRead} → page ≡ page_scanned g w asked i p → {slot : ℕ} → page.flaw ≡ Some slot →
-      Broken (fault_in Page i p slot) ≡ page_step g w asked i p
+  pub page_wrong : {page : PageRead} → page ≡ page_scanned g w asked i p → page_formed g w i p ≡ false →
+      Broken (fault_in Page i p (slot_told page.formed)) ≡ page_step g w asked i p
   unfolding page_step page_right walk_fault page_fault
-  page_broken told e = let flaw = page_flaw g w asked i p told e in rw (flaw.0, flaw.1)
+  page_wrong told e = rw (page_slot_told g w asked i p told, e)
+
+  pub page_broken : {page : PageRead} → page ≡ page_scanned g w asked i p → {slot : ℕ} → page.formed ≡ Err slot →
+      Broken (fault_in Page i p slot) ≡ page_step g w asked i p
+  page_broken told e = rw e at (page_wrong told (page_flaw g w asked i p told e).0)
 
   module _ (formed : page_formed g w i p ≡ true) where
     page_tests_lem : (count_right g w i p ≡ true) × (in_order page_run ≡ true) × (all (legal true (pages_of g w (suc i))) page_run ≡ true)

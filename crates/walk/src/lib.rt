@@ -118,13 +118,14 @@ fn head_step(store: &Store, asked: Pair, head: HeadRead) -> Result<Seen, Flaw>
     ensures exact { seen_in Head 0 0 result ≡ head_step store.now.geometry store.now.words.now asked }
     ensures within { StepWithin (pages_of store.now.geometry store.now.words.now 1) (seen_in Head 0 0 result) }
 {
-    match head.flaw {
-        Some(slot) => Err(Flaw::Unformed(SlotNo(slot))),
-        None => Ok(tell_above(store.words, HEAD_START, head.reach, asked)),
+    match head.formed {
+        Err(slot) => Err(Flaw::Unformed(SlotNo(slot))),
+        Ok(_) => Ok(tell_above(store.words, HEAD_START, head.reach, asked)),
     }
 }
 
 // What a page of a lower level tells of a pair.
+#[inline(always)]
 fn page_look(store: &Store, asked: Pair, level: u32, page: Pid) -> Look
     requires { (1 ≤ level) × (level < store.now.geometry.levels) × (page.0 < room store.now.geometry level) }
     ensures exact { seen_in Page level page.0 result.step ≡ page_step store.now.geometry store.now.words.now asked level page.0 }
@@ -135,7 +136,7 @@ fn page_look(store: &Store, asked: Pair, level: u32, page: Pid) -> Look
     let place = at.place + FIRST_SLOT;
     let scan = page_scan(store.words, at, asked);
     let reach = scan.reach;
-    let step = if let Some(slot) = scan.flaw {
+    let step = if let Err(slot) = scan.formed {
         Err(Flaw::Unformed(SlotNo(slot)))
     } else if level + 1 == store.geometry.levels {
         Ok(tell_bottom(store.words, place, reach, asked))
@@ -148,13 +149,15 @@ fn page_look(store: &Store, asked: Pair, level: u32, page: Pid) -> Look
 }
 
 // The walk from the head down.
+#[inline(always)]
 pub fn walk_down(store: &Store, asked: Pair) -> Result<Found, Fault>
     ensures { result ≡ walked store.now.geometry store.now.words.now asked }
 {
-    walk_survey(store, asked).walked
+    walk_noted(store, asked, &mut []).walked
 }
 
 // The same walk, with what its pass over the head told.
+#[inline(never)]
 pub fn walk_survey(store: &Store, asked: Pair) -> Survey
     ensures walks { result.walked ≡ walked store.now.geometry store.now.words.now asked }
     ensures reads { result.head ≡ head_scanned store.now.geometry store.now.words.now asked }
@@ -163,6 +166,7 @@ pub fn walk_survey(store: &Store, asked: Pair) -> Survey
 }
 
 // The same walk, which notes a line for each level that it reads, if the trail has room for it.
+#[inline(always)]
 pub fn walk_noted(store: &Store, asked: Pair, trail: &mut [u32]) -> Survey
     ensures walks { result.walked ≡ walked store.now.geometry store.now.words.now asked }
     ensures reads { result.head ≡ head_scanned store.now.geometry store.now.words.now asked }
@@ -176,6 +180,7 @@ pub fn walk_noted(store: &Store, asked: Pair, trail: &mut [u32]) -> Survey
 }
 
 // The walk after the pass over the head.
+#[inline(always)]
 fn walk_past(store: &Store, asked: Pair, head: HeadRead, trail: &mut [u32]) -> Result<Found, Fault>
     requires { head ≡ head_scanned store.now.geometry store.now.words.now asked }
     ensures walks { result ≡ walked store.now.geometry store.now.words.now asked }
@@ -202,6 +207,7 @@ fn walk_past(store: &Store, asked: Pair, head: HeadRead, trail: &mut [u32]) -> R
 }
 
 // The walk over the lower levels, from a page of level 1 on.
+#[inline(always)]
 fn walk_levels(store: &Store, asked: Pair, first: Pid, trail: &mut [u32]) -> Result<Found, Fault>
     requires store_value { directory_right store.now.geometry store.now.words.now ≡ true }
     requires first_bound { first.0 < pages_of store.now.geometry store.now.words.now 1 }

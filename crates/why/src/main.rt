@@ -1,7 +1,7 @@
 // The tool for the service desk: tells why a badge may call a floor or not, from a chip's bytes on standard input.
 #![tactic(auto)]
 
-ghost use Rattle.std.specs.Prelude.{◌≤◌, ◌≡◌, vec_capacity, vec_len, IfOk};
+ghost use Rattle.std.specs.Prelude.{◌≤◌, ◌≡◌, length, vec_capacity, vec_len, IfOk};
 
 use std::alloc::{AllocError, Global};
 use std::env::Env;
@@ -30,7 +30,9 @@ fn main(rt: HostRuntime) -> io::Result<()> {
 }
 
 // An argument, which is put into the buffer: no bytes where there is none, or it is longer than the buffer.
-fn argument<'a>(rt: &impl Env, number: usize, room: &'a mut [u8]) -> &'a [u8] {
+fn argument<'a>(rt: &impl Env, number: usize, room: &'a mut [u8]) -> &'a [u8]
+    ensures { length result.now ≤ length room.old }
+{
     let n = rt.arg(number, room).unwrap_or(0);
     &room[..n]
 }

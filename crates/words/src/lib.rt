@@ -18,5 +18,7 @@ pub fn copy_in(words: &mut [u32], place: usize, from: &[u32], n: usize)
     requires { (place + n ≤ length words.old) × (n ≤ length from.now) }
     ensures { words.new ≡ sets words.old place (take n from.now) }
 {
-    words[place..place + n].copy_from_slice(&from[..n]);
+    for j in 0..n {
+        words[place + j] = from[j];
+    }
 }

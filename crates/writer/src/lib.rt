@@ -150,6 +150,7 @@ fn put_slot(work: &mut [u32], position: u32, slot: Slot)
 }
 
 // Puts the next entry behind the fences that come before it.
+#[inline(always)]
 fn put_next(store: &[u32], work: &mut [u32], source: Source, at: Position, entry: Entry) -> Position
     requires source_inside { SourceInside store.now source }
     requires room_for { RoomFor (at.own + source.below + 1) work.old }

@@ -1,4 +1,4 @@
--- `head_scan` gives what a pass over the head tells of it, its flaw by `head_told`. Assumes nothing.
+-- `head_scan` gives what a pass over the head tells of it, its mark and its slot by `head_told`. Assumes nothing.
 use mathlib.Core.Path.{ap}
 use Rattle.rules.specs.Sound.{head_slots}
 use Rattle.form.specs.declared.HeadAt.{HeadAt}
@@ -13,4 +13,4 @@ returns c =
     let w = a.words.now in
     λ g e.
     head_told g w a.asked (omega (arith, c.requires.capacity, ap (λ (h : HeadAt). h.head) e))
-    (rw (c.first_flaw.ensures, c.both-2.ensures, c.both-right.ensures, c.both.ensures, c.both-begun.ensures, c.both-least.ensures, c.is_least_fence.ensures, c.scan_head-scan.ensures, c.min-read.ensures, e))
+    (rw (c.marked_slot.ensures, c.both-2.ensures, c.both-right.ensures, c.both.ensures, c.both-begun.ensures, c.both-least.ensures, c.is_least_fence.ensures, c.scan_head-scan.ensures, c.min-read.ensures, e))

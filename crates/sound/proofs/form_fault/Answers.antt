@@ -31,8 +31,8 @@ page_at-at-requires c =
     let fits = pages_most g w c.requires.store_value level h.0 (omega (arith, h.1, s.lent.in_range_lem.levels_most)) h.1 in
     (h.0, h.1, omega (arith, c.loop-p-test.true, pages, fits))
 
-pub returns-in-Some : goal.returns-in-Some
-returns-in-Some c =
+pub returns-in-Err : goal.returns-in-Err
+returns-in-Err c =
     let s = c.args.store.now in
     let g = s.geometry in
     let w = s.words.now in
@@ -42,8 +42,8 @@ returns-in-Some c =
     let below : loop.p < pages_of g w level = omega (arith, c.loop-p-test.true, pages) in
     let scan = c.page_scan-scan.ensures g level loop.p c.requires.le_level.1 c.page_at-at.ensures.exact in
     let fault = page_fault g w level loop.p in
-    ap Err (c.at.ensures ∙ page_told g w _ level loop.p scan c.in-Some.is) ∙
-    sym (test_fails (page_tested g w level) loop.p _ fault below (ap (λ b. unless b fault) (page_flaw g w _ level loop.p scan c.in-Some.is).0)) ∙ loop.invariant
+    ap Err (c.at.ensures ∙ rw c.in-Err.is at (page_told g w _ level loop.p scan)) ∙
+    sym (test_fails (page_tested g w level) loop.p _ fault below (ap (λ b. unless b fault) (page_flaw g w _ level loop.p scan c.in-Err.is).0)) ∙ loop.invariant
 
 pub loop-p-preserved : goal.loop-p-preserved
 loop-p-preserved c =

@@ -14,14 +14,14 @@ returns-then-not-directory_right c =
     let s = c.args.store.now in
     rw c.of.ensures (fault_directory s.geometry s.words.now (sym c.directory_right.ensures ∙ c.if-not-directory_right.true))
 
-pub returns-in-Some : goal.returns-in-Some
-returns-in-Some c =
+pub returns-in-Err : goal.returns-in-Err
+returns-in-Err c =
     let s = c.args.store.now in
     let g = s.geometry in
     let w = s.words.now in
     let right = sym c.directory_right.ensures ∙ c.if-not-directory_right.false in
     let scan = c.walk_survey-survey.ensures.reads in
-    ap Err (c.at.ensures ∙ head_told g w _ scan c.in-Some.is) ∙ fault_head g w right (head_flaw g w _ scan c.in-Some.is).0
+    ap Err (c.at.ensures ∙ rw c.in-Err.is at (head_told g w _ scan)) ∙ fault_head g w right (head_flaw g w _ scan c.in-Err.is).0
 
 pub returns-in_err-form_faults : goal.returns-in_err-form_faults
 returns-in_err-form_faults c =

@@ -12,7 +12,7 @@ pub tell_above-requires : goal.tell_above-requires
 tell_above-requires c =
     let a = c.args in
     let s = a.store.now in
-    let right = head_unflawed s.geometry s.words.now a.asked c.requires c.in-None.is in record {
+    let right = head_unflawed s.geometry s.words.now a.asked c.requires c.in-Ok.is in record {
       le_reach = (
         rw c.requires (head_some s.geometry s.words.now a.asked right),
         omega (arith, ap (λ (h : HeadRead). h.reach) c.requires, head_reach_small s.geometry s.words.now a.asked right, head_lent s.geometry s.plan s.words.now s.lent),
@@ -20,18 +20,18 @@ tell_above-requires c =
       place_value = head_first s.geometry s.words.now a.asked right;
     }
 
-pub returns-in-Some : goal.returns-in-Some
-returns-in-Some c =
+pub returns-in-Err : goal.returns-in-Err
+returns-in-Err c =
     let s = c.args.store.now in record {
-      exact = head_broken s.geometry s.words.now c.args.asked c.requires c.in-Some.is;
+      exact = head_broken s.geometry s.words.now c.args.asked c.requires c.in-Err.is;
       within = tt;
     }
 
-pub returns-in-None : goal.returns-in-None
-returns-in-None c =
+pub returns-in-Ok : goal.returns-in-Ok
+returns-in-Ok c =
     let a = c.args in
     let s = a.store.now in
-    let right = head_unflawed s.geometry s.words.now a.asked c.requires c.in-None.is in record {
+    let right = head_unflawed s.geometry s.words.now a.asked c.requires c.in-Ok.is in record {
       exact = c.tell_above.ensures Head 0 0 ∙ rw c.requires (head_tells s.geometry s.words.now a.asked right);
       within = rw (c.tell_above.ensures Head 0 0, c.requires) (head_within s.geometry s.words.now a.asked right);
     }

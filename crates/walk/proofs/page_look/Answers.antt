@@ -37,12 +37,12 @@ tell_above-requires c =
       place_value = rw place (page_first s.geometry s.words.now a.asked a.level a.page.0 formed above first);
     }
 
-pub returns-in-Some-clause-exact : goal.returns-in-Some-clause-exact
-returns-in-Some-clause-exact c =
+pub returns-in-Err-clause-exact : goal.returns-in-Err-clause-exact
+returns-in-Err-clause-exact c =
     let a = c.args in
     let s = a.store.now in
     let scan = c.page_scan-scan.ensures s.geometry a.level a.page.0 c.requires.1 c.page_at-at.ensures.exact in
-    page_broken s.geometry s.words.now a.asked a.level a.page.0 scan c.in-Some.is
+    page_broken s.geometry s.words.now a.asked a.level a.page.0 scan c.in-Err.is
 
 pub returns-then-level-store-clause-exact : goal.returns-then-level-store-clause-exact
 returns-then-level-store-clause-exact c =
