@@ -97,10 +97,10 @@
  * library, and by what calls on painted stacks reached. Of these bytes the library takes, the return address of the call included:
  *
  *     landing_put, landing_drop                 1736     in a merge from level 0 down to level 3; without one about half of it
- *     landing_list                              1176
- *     landing_check                              856
+ *     landing_list                              1184
+ *     landing_check                              864
  *     landing_ask                                232
- *     landing_why                                248
+ *     landing_why                                240
  *     landing_format                             104
  *     landing_store_words, landing_work_words      8
  *
